@@ -1,0 +1,11 @@
+pub mod Examples
+pub mod Names
+pub mod Pairs
+pub mod Finished
+pub mod GraphExamples
+pub mod Buckets
+pub mod Maps
+pub mod Orders
+pub mod Moved
+pub mod Givers
+pub mod Shown

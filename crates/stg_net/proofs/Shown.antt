@@ -1,0 +1,65 @@
+-- A component's net is a net.
+use Rattle.std.proofs.Common.{◌≡◌, ◌≢◌, ℕ, ◌+◌, ◌==◌, true, false, List, [], ◌∷◌, length, map, cond, All, AllPairs, IsTrue, refl, sym, ap, ◌∙◌, subst}
+use Rattle.std.specs.List.{list_any, enumerate_from}
+use Rattle.std.proofs.lemmas.List.{length-map}
+use Rattle.std.proofs.lemmas.List.FromFn.{length-enumerate_from}
+use Rattle.std.proofs.lemmas.List.Elements.{All-map}
+use Rattle.stg_net.specs.declared.signal.Kind.TheVariants.{Input}
+use Rattle.stg_net.specs.declared.signal.Signal.{Signal}
+use Rattle.stg_net.specs.declared.limits.Limits.{Limits}
+use Rattle.stg_net.specs.Net.{NetLists, IsNet, IsWithin}
+use Rattle.stg_net.specs.Names.{is_name, IsWellNamed}
+use Rattle.stg_net.specs.Component.{shown, component}
+use Rattle.stg_net.proofs.Maps.{All-from_map, AllPairs-from_map, AllPairs-map}
+
+abbrev name_of : Signal → List ℕ
+name_of s = s.name
+
+shown-name : (own : List ℕ) (k : ℕ) (s : Signal) → name_of (shown own (k, s)) ≡ s.name
+shown-name own k s =
+    elim (list_any (λ o. o == k) own) as (λ b. name_of (cond b s (record s { kind = Input })) ≡ s.name) [ true ↦ refl | false ↦ refl ]
+
+-- the signals that a component sees
+abbrev pub shown_from : List ℕ → ℕ → List Signal → List Signal
+shown_from own k signals = map (shown own) (enumerate_from k signals)
+
+-- a component sees the same names
+pub shown-names : (own : List ℕ) (k : ℕ) (signals : List Signal) → map name_of (shown_from own k signals) ≡ map name_of signals
+shown-names own k [] = refl
+shown-names own k (s ∷ signals) =
+    ap (λ n. n ∷ map name_of (shown_from own (k + 1) signals)) (shown-name own k s) ∙ ap (λ ns. s.name ∷ ns) (shown-names own (k + 1) signals)
+
+pub length-shown : (own : List ℕ) (k : ℕ) (signals : List Signal) → length (shown_from own k signals) ≡ length signals
+length-shown own k signals = length-map (enumerate_from k signals) (shown own) ∙ length-enumerate_from k signals
+
+pub component-IsNet : (own : List ℕ) (n : NetLists) → IsNet n → IsNet (component own n)
+component-IsNet own n net = record {
+  signal_names =
+      AllPairs-from_map name_of (λ (s t : List ℕ). s ≢ t) (shown_from own 0 n.signals)
+      (subst (AllPairs (λ (s t : List ℕ). s ≢ t)) (sym (shown-names own 0 n.signals)) (AllPairs-map name_of (λ (s t : List ℕ). s ≢ t) n.signals net.signal_names));
+  trans_names = net.trans_names;
+  trans_signals = rw length-shown net.trans_signals;
+  arcs = net.arcs;
+  ordered = net.ordered;
+  signals_fit = rw length-shown net.signals_fit;
+  trans_fit = net.trans_fit;
+  places_fit = net.places_fit;
+}
+
+pub component-within : (own : List ℕ) (n : NetLists) (l : Limits) → IsWithin l n → IsWithin l (component own n)
+component-within own n l within = record {
+  signals = rw length-shown within.signals;
+  trans = within.trans;
+  places = within.places;
+  arcs = within.arcs;
+  tokens = within.tokens;
+  weights = within.weights;
+}
+
+pub component-named : (own : List ℕ) (n : NetLists) → IsWellNamed n → IsWellNamed (component own n)
+component-named own n named = record {
+  names =
+      All-from_map name_of (λ (s : List ℕ). IsTrue (is_name s)) (shown_from own 0 n.signals)
+      (subst (All (λ (s : List ℕ). IsTrue (is_name s))) (sym (shown-names own 0 n.signals)) (All-map (λ (s : List ℕ). IsTrue (is_name s)) name_of n.signals named.names));
+  indices = named.indices;
+}

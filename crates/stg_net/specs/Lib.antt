@@ -1,0 +1,12 @@
+pub mod Net
+pub mod Names
+pub mod Words
+pub mod Building
+pub mod Builder
+pub mod Ordered
+pub mod Component
+pub mod Spec
+pub mod Graph
+pub mod Run
+pub mod Contraction
+pub mod Initial

@@ -1,0 +1,26 @@
+//! Nets and graphs: places with tokens, transitions that carry signal edges, and weighted arcs.
+#![tactic(auto)]
+
+mod arc;
+mod builder;
+mod limits;
+mod net;
+mod no_memory;
+mod order;
+mod seq;
+mod signal;
+mod spec;
+#[cfg(test)]
+mod tests;
+mod trans;
+
+pub use arc::NetArc;
+pub use builder::{BuildError, NetBuilder};
+pub use limits::Limits;
+pub use net::Net;
+pub use no_memory::NoMemory;
+pub use order::ordered;
+pub use seq::{Nums, Seq, Text};
+pub use signal::{Kind, Signal};
+pub use spec::{PlaceName, Spec};
+pub use trans::{Edge, TransName, trans_text};

@@ -1,0 +1,125 @@
+//! Nets.
+
+ghost use Rattle.std.specs.Prelude.{◌≡◌, ◌==◌, ℕ, map, IfOk};
+ghost use Rattle.std.specs.List.{list_any, enumerate_from};
+ghost use Rattle.stg_net.specs.declared.limits.Limits.{Limits};
+ghost use Rattle.stg_net.specs.Net.{IsNet, IsWithin};
+ghost use Rattle.stg_net.specs.Names.{IsWellNamed};
+ghost use Rattle.stg_net.specs.Component.{shown};
+ghost use Rattle.stg_net.specs.Component as lists;
+
+use crate::{Kind, NetArc, NoMemory, Nums, Seq, Signal, TransName};
+use std::alloc::Global;
+use std::marker::Model;
+
+/// A net. Contracts see it as its four lists.
+#[derive(Debug, Drop)]
+pub struct Net {
+    signals: Seq<Signal>,
+    trans: Seq<TransName>,
+    tokens: Nums,
+    arcs: Seq<NetArc>,
+}
+
+impl Model for Net {
+    ghost use Rattle.stg_net.specs.Net.{NetLists, IsNet};
+
+    ghost Value = { NetLists };
+
+    ghost view = { λ n. record { signals = n.signals; trans = n.trans; tokens = n.tokens; arcs = n.arcs } };
+
+    ghost invariant = { λ n. IsNet (record { signals = n.signals; trans = n.trans; tokens = n.tokens; arcs = n.arcs }) };
+}
+
+impl Net {
+    pub(crate) fn of(
+        signals: Seq<Signal>,
+        trans: Seq<TransName>,
+        tokens: Nums,
+        arcs: Seq<NetArc>,
+    ) -> Self
+        requires { IsNet (record { signals = signals; trans = trans; tokens = tokens; arcs = arcs }) }
+        ensures { result ≡ record { signals = signals; trans = trans; tokens = tokens; arcs = arcs } }
+    {
+        Net {
+            signals,
+            trans,
+            tokens,
+            arcs,
+        }
+    }
+
+    /// The signals, in the order of their numbers.
+    pub fn signals(&self) -> &[Signal]
+        ensures signals { result.now ≡ self.now.signals }
+        ensures net { IsNet self.now }
+    {
+        self.signals.as_slice()
+    }
+
+    /// The names of the transitions, in the order of their numbers.
+    pub fn trans(&self) -> &[TransName]
+        ensures trans { result.now ≡ self.now.trans }
+        ensures net { IsNet self.now }
+    {
+        self.trans.as_slice()
+    }
+
+    /// The tokens of the places, in the order of their numbers.
+    pub fn tokens(&self) -> &[u32]
+        ensures tokens { result.now ≡ self.now.tokens }
+        ensures net { IsNet self.now }
+    {
+        self.tokens.as_slice()
+    }
+
+    /// The arcs, by place, then by transition, then those out of the place first.
+    pub fn arcs(&self) -> &[NetArc]
+        ensures arcs { result.now ≡ self.now.arcs }
+        ensures net { IsNet self.now }
+    {
+        self.arcs.as_slice()
+    }
+
+    /// Makes the net that a component sees, where it owns these signals.
+    pub fn component(&self, alloc: Global, own: &[u32]) -> Result<Net, NoMemory>
+        ensures value { IfOk result (λ n. n ≡ lists.component own.now self.now) }
+        ensures within { IfOk result (λ n. (l : Limits) → IsWithin l self.now → IsWithin l n) }
+        ensures named { IfOk result (λ n. IsWellNamed self.now → IsWellNamed n) }
+    {
+        Ok(Net::of(
+            show_signals(alloc, own, self.signals())?,
+            Seq::from_slice(alloc, self.trans())?,
+            Seq::from_slice(alloc, self.tokens())?,
+            Seq::from_slice(alloc, self.arcs())?,
+        ))
+    }
+}
+
+fn owns(own: &[u32], s: usize) -> bool
+    ensures { result ≡ list_any (λ o. o == s) own.now }
+{
+    own.iter().any(|o| *o as usize == s)
+}
+
+fn show_signal(alloc: Global, own: &[u32], s: usize, signal: &Signal) -> Result<Signal, NoMemory>
+    ensures { IfOk result (λ n. n ≡ shown own.now (s, signal.now)) }
+{
+    let kind = if owns(own, s) {
+        signal.kind
+    } else {
+        Kind::Input
+    };
+    let name = Seq::from_slice(alloc, signal.name.as_slice())?;
+    Ok(Signal { name, kind })
+}
+
+fn show_signals(alloc: Global, own: &[u32], signals: &[Signal]) -> Result<Seq<Signal>, NoMemory>
+    ensures { IfOk result (λ n. n ≡ map (shown own.now) (enumerate_from 0 signals.now)) }
+{
+    let mut list = Seq::new(alloc);
+    for (s, signal) in signals.iter().enumerate() {
+        list.push(show_signal(alloc, own, s, signal)?)?;
+    }
+    Ok(list)
+}
