@@ -1,0 +1,13 @@
+//! The text of a component.
+#![tactic(auto)]
+
+mod component;
+mod graph;
+mod header;
+mod marking;
+mod number;
+mod place;
+#[cfg(test)]
+mod tests;
+
+pub use component::write_net;
