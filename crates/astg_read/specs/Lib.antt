@@ -1,0 +1,10 @@
+pub mod Rows
+pub mod Names
+pub mod Sections
+pub mod Signals
+pub mod Links
+pub mod Reading
+pub mod Refusals
+pub mod Shown
+pub mod Found
+pub mod Built

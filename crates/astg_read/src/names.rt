@@ -1,0 +1,149 @@
+//! Numbers and transition words.
+
+ghost use Rattle.std.specs.Prelude.{◌≡◌, ◌≤◌, ◌<◌, ◌^◌, true, length, option_map, OnSome, IfSome};
+ghost use Rattle.std.specs.List.{list_all, prefix_len};
+ghost use Rattle.stg_net.specs.Names as forms;
+ghost use Rattle.astg_read.specs.Names as names;
+ghost use Rattle.astg_read.specs.Shown.{shown_trans_word};
+
+use stg_net::Edge;
+
+/// The parts of a transition word.
+#[derive(Clone, Copy)]
+pub struct TransWord<'a> {
+    pub name: &'a [u8],
+    pub edge: Edge,
+    pub index: u32,
+}
+
+fn is_digit(c: u8) -> bool
+    ensures { result ≡ forms.is_digit c }
+{
+    c.is_ascii_digit()
+}
+
+fn begins_name(c: u8) -> bool
+    ensures { result ≡ forms.begins_name c }
+{
+    matches!(c, b'a'..=b'z' | b'A'..=b'Z' | b'0'..=b'9' | b'_')
+}
+
+fn is_in_name(c: u8) -> bool
+    ensures { result ≡ forms.is_in_name c }
+{
+    begins_name(c) || matches!(c, b'.' | b'[' | b']')
+}
+
+fn all_in_name(bytes: &[u8]) -> bool
+    ensures { result ≡ list_all forms.is_in_name bytes.now }
+{
+    bytes.iter().all(|c| is_in_name(*c))
+}
+
+fn all_digits(bytes: &[u8]) -> bool
+    ensures { result ≡ list_all forms.is_digit bytes.now }
+{
+    bytes.iter().all(|c| is_digit(*c))
+}
+
+/// Whether a word has the form of a name.
+pub fn is_name(word: &[u8]) -> bool
+    ensures { result ≡ forms.is_name word.now }
+{
+    match word {
+        [] => false,
+        [first, rest @ ..] => begins_name(*first) && rest.len() <= 99 && all_in_name(rest),
+    }
+}
+
+fn is_number(word: &[u8]) -> bool
+    ensures { result ≡ names.is_number word.now }
+{
+    1 <= word.len() && word.len() <= 9 && all_digits(word)
+}
+
+fn edge_of(c: u8) -> Option<Edge>
+    ensures { result ≡ names.edge_of c }
+{
+    match c {
+        b'+' => Some(Edge::Rise),
+        b'-' => Some(Edge::Fall),
+        b'~' => Some(Edge::Toggle),
+        _ => None,
+    }
+}
+
+fn value(digits: &[u8]) -> u32
+    requires few { length digits.now ≤ 9 }
+    requires all { list_all forms.is_digit digits.now ≡ true }
+    ensures value { result ≡ names.value_after 0 digits.now }
+    ensures within { result < 1000000000 }
+{
+    let mut n = 0;
+    for c in digits {
+        n = n * 10 + (*c - b'0') as u32;
+    }
+    n
+}
+
+fn number(word: &[u8]) -> Option<u32>
+    ensures value { result ≡ names.number word.now }
+    ensures within { IfSome result (λ n. n < 1000000000) }
+{
+    if is_number(word) {
+        Some(value(word))
+    } else {
+        None
+    }
+}
+
+fn index_of(word: &[u8]) -> Option<u32>
+    ensures value { result ≡ names.index_of word.now }
+    ensures within { IfSome result (λ n. n < 1000000000) }
+{
+    match word {
+        [] => Some(0),
+        [b'/', digits @ ..] => number(digits),
+        _ => None,
+    }
+}
+
+fn change_of(word: &[u8]) -> Option<(Edge, u32)>
+    ensures value { result ≡ names.change_of word.now }
+    ensures within { IfSome result (λ c. c.1 < 1000000000) }
+{
+    let [first, rest @ ..] = word else {
+        return None;
+    };
+    match (edge_of(*first), index_of(rest)) {
+        (Some(edge), Some(index)) => Some((edge, index)),
+        _ => None,
+    }
+}
+
+fn name_length(word: &[u8]) -> usize
+    ensures value { result ≡ prefix_len forms.is_in_name word.now }
+    ensures most { result ≤ length word.now }
+{
+    for (i, c) in word.iter().enumerate() {
+        if !is_in_name(*c) {
+            return i;
+        }
+    }
+    word.len()
+}
+
+/// The parts of a transition word, where it is one.
+pub fn read_trans_word(word: &[u8]) -> Option<TransWord<'_>>
+    ensures value { option_map shown_trans_word result ≡ names.read_trans_word word.now }
+    ensures within { IfSome result (λ w. w.index < 1000000000) }
+{
+    let (name, rest) = word.split_at(name_length(word));
+    if !is_name(name) {
+        return None;
+    }
+    match change_of(rest) {
+        Some((edge, index)) => Some(TransWord { name, edge, index }),
+        None => None,
+    }
+}
