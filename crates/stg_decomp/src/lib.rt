@@ -1,0 +1,10 @@
+//! The decomposition of a specification into parts, and the texts of these.
+#![tactic(auto)]
+
+mod part;
+mod parts;
+mod text;
+
+pub use part::{Answer, Part};
+pub use parts::decompose;
+pub use text::part_text;

@@ -1,0 +1,28 @@
+//! The texts of parts.
+
+ghost use Rattle.std.specs.Prelude.{◌≡◌, ◌+◌, ◌<◌, ◌≤◌, length, IfOk};
+ghost use Rattle.astg_write.specs.Writable.{IsWritable};
+ghost use Rattle.stg_decomp.specs.Parts.{part_at};
+ghost use Rattle.astg_write.specs.ComponentText.{component_text};
+
+use crate::Answer;
+use astg_write::write_net;
+use std::alloc::Global;
+use stg_net::{Net, NoMemory, Text};
+
+fn net_at(answer: &Answer, k: u32) -> &Net
+    requires { k < length answer.now.parts }
+    ensures { result.now ≡ (part_at answer.now.parts k).net }
+{
+    &answer.parts.as_slice()[k as usize].net
+}
+
+/// Writes the net of the part of that number, counted from 0, as the component of the next number.
+pub fn part_text(alloc: Global, answer: &Answer, k: u32) -> Result<Text, NoMemory>
+    requires there { k < length answer.now.parts }
+    requires few { k ≤ 249 }
+    requires writable { IsWritable (part_at answer.now.parts k).net }
+    ensures value { IfOk result (λ text. text ≡ component_text (part_at answer.now.parts k).net (k + 1)) }
+{
+    write_net(alloc, net_at(answer, k), k + 1)
+}
