@@ -1,0 +1,4 @@
+pub mod EntryLemmas
+pub mod WriteLemmas
+pub mod AnswerLemmas
+pub mod RunLemmas

@@ -1,0 +1,5 @@
+use Rattle.desij.proofs.RunLemmas.{completes}
+use Rattle.desij.proofs.run.run.Goals as goal
+
+pub returns-clause-accepted : goal.returns-clause-accepted
+returns-clause-accepted g c = completes _ _ _ _ (rw c.spec_name.ensures at c.perform.ensures.ends)

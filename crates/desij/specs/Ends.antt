@@ -1,0 +1,35 @@
+-- How the steps of a run end, by their status.
+use Rattle.std.specs.Prelude.{◌≡◌, ℕ, List, Option, IsSomeAnd}
+use Rattle.desij.specs.Outside.{SeenShelf, SeenSink}
+use Rattle.desij.specs.Printing.{printed, refusal}
+use Rattle.desij.specs.Run.{Seen, Prints, BreaksOff, PutsAll, PutsFirst, PutsUpTo, TellsUsage, RefusesText, WritesParts, CannotRead, CannotPut, CannotPrint, LacksMemory}
+use Rattle.stg_decomp.specs.declared.part.Part.{Part}
+use Rattle.astg_read.specs.declared.rule.Rule.TheVariants.{NotBuilt}
+use Rattle.desij.specs.declared.status.Status.{Status}
+use Rattle.desij.specs.declared.status.Status.TheVariants.{Done, BadWords, Refused, ReadFault, WriteFault, PrintFault, NoMemory, ServeFault}
+
+-- how a run ends
+abbrev pub Ends : Option (List ℕ) → Status → Seen → Seen → Type 0
+Ends form Done old new = IsSomeAnd form (λ name. WritesParts name old new)
+Ends form BadWords old new = TellsUsage form old new
+Ends form Refused old new = IsSomeAnd form (λ name. RefusesText name old new)
+Ends form ReadFault old new = IsSomeAnd form (λ name. CannotRead name old new)
+Ends form WriteFault old new = IsSomeAnd form (λ name. CannotPut name old new)
+Ends form PrintFault old new = CannotPrint form old new
+Ends form NoMemory old new = IsSomeAnd form (λ name. LacksMemory name old new)
+Ends form ServeFault old new = ⊥
+
+-- how a refusal ends
+abbrev pub Refuses : Status → SeenSink → SeenSink → Type 0
+Refuses Refused old new = Prints (refusal NotBuilt 0) old new
+Refuses PrintFault old new = BreaksOff (refusal NotBuilt 0) old new
+Refuses NoMemory old new = new ≡ old
+Refuses s old new = ⊥
+
+-- how the putting and printing of these parts ends
+abbrev pub Finishes : List Part → Status → SeenShelf → SeenShelf → SeenSink → SeenSink → Type 0
+Finishes parts Done old new sink sink' = PutsAll parts old new × Prints (printed parts) sink sink'
+Finishes parts WriteFault old new sink sink' = ((k : ℕ) × PutsUpTo k parts old new) × (sink' ≡ sink)
+Finishes parts PrintFault old new sink sink' = PutsAll parts old new × BreaksOff (printed parts) sink sink'
+Finishes parts NoMemory old new sink sink' = ((k : ℕ) × PutsFirst k parts old new) × (sink' ≡ sink)
+Finishes parts s old new sink sink' = ⊥

@@ -1,0 +1,32 @@
+-- The files of an answer.
+use Rattle.std.specs.Prelude.{◌≡◌, ℕ, ◌+◌, ◌<◌, ◌≤◌, zero, suc, List, ◌++◌, length, Option, Result, Ok, Err, codes, decimal}
+use Rattle.std.specs.Option.{option_map}
+use Rattle.std.specs.FinMap.{insert, remove}
+use Rattle.desij.specs.Outside.{Files}
+use Rattle.desij.specs.Answering.{part_bytes}
+use Rattle.stg_decomp.specs.declared.part.Part.{Part}
+use Rattle.desij.specs.declared.outside.PutError.{PutError}
+use Rattle.desij.specs.declared.outside.PutError.TheVariants as put_error
+
+-- the name of the k-th part's file, whose number is counted from 1
+abbrev pub part_name : ℕ → List ℕ
+part_name k = codes "part" ++ decimal (k + 1) ++ codes ".g"
+
+-- the files with those of the first k parts set
+abbrev pub with_parts : List Part → ℕ → Files → Files
+with_parts parts zero m = m
+with_parts parts (suc k) m = insert (with_parts parts k m) (part_name k) (part_bytes parts k)
+
+-- these files are the old ones with those of the first k parts set
+abbrev pub HasParts : List Part → ℕ → Option Files → Option Files → Type 0
+HasParts parts k old new = new ≡ option_map (with_parts parts k) old
+
+-- The files of the first k parts are set. Nothing is told of the next one, and all others are as they were.
+abbrev pub FailsAt : List Part → ℕ → Option Files → Option Files → Type 0
+FailsAt parts k old new = option_map (λ (m : Files). remove m (part_name k)) new ≡ option_map (λ (m : Files). remove (with_parts parts k m) (part_name k)) old
+
+-- All files are set; or those before the one that failed; or some first ones, where memory ran out.
+abbrev pub PutsParts : List Part → Result (Unit {0}) PutError → Option Files → Option Files → Type 0
+PutsParts parts (Ok done) old new = HasParts parts (length parts) old new
+PutsParts parts (Err put_error.Failed) old new = (k : ℕ) × (k < length parts) × FailsAt parts k old new
+PutsParts parts (Err put_error.NoMemory) old new = (k : ℕ) × (k ≤ length parts) × HasParts parts k old new

@@ -1,0 +1,11 @@
+pub mod Outside
+pub mod Calls
+pub mod Entries
+pub mod Memory
+pub mod Words
+pub mod Reading
+pub mod Answering
+pub mod Files
+pub mod Printing
+pub mod Run
+pub mod Ends

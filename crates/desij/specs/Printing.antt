@@ -1,0 +1,47 @@
+-- What a run prints.
+use Rattle.std.specs.Prelude.{◌≡◌, ℕ, ◌+◌, ◌-◌, List, [], ◌∷◌, ◌++◌, length, take, Option, codes, decimal}
+use Rattle.std.specs.Io.KnownBytes.{append_known}
+use Rattle.stg_net.specs.Net.{NetLists}
+use Rattle.stg_decomp.specs.declared.part.Part.{Part}
+use Rattle.astg_read.specs.declared.rule.Rule.{Rule}
+use Rattle.astg_read.specs.declared.rule.Rule.TheVariants.{NotBuilt}
+
+-- a word and a number
+unfoldable pub count_text : List ℕ → ℕ → List ℕ
+count_text word n = word ++ decimal n
+
+-- how many signals are a part's own, and how many others it knows
+unfoldable pub signal_counts : Part → List ℕ
+signal_counts p = count_text (codes " own ") (length p.own) ++ count_text (codes " inputs ") (length p.known - length p.own)
+
+-- how many transitions and places a net has
+unfoldable pub net_sizes : NetLists → List ℕ
+net_sizes n = count_text (codes " transitions ") (length n.trans) ++ count_text (codes " places ") (length n.tokens)
+
+-- the line of a part of that number
+unfoldable pub part_line : ℕ → Part → List ℕ
+part_line number p =
+    count_text (codes "part ") number
+    ++ signal_counts p
+    ++ net_sizes p.net
+    ++ codes " restored 0\n"
+
+-- the lines of the parts, of which the first has that number
+abbrev pub part_lines : ℕ → List Part → List ℕ
+part_lines number [] = []
+part_lines number (p ∷ parts) = part_line number p ++ part_lines (number + 1) parts
+
+-- a line for each part, and their number
+abbrev pub printed : List Part → List ℕ
+printed parts = part_lines 1 parts ++ count_text (codes "done ") (length parts) ++ 10 ∷ []
+
+abbrev pub rule_word : Rule → List ℕ
+rule_word NotBuilt = codes "NotBuilt"
+
+-- the line that tells the rule that a text breaks, and where
+abbrev pub refusal : Rule → ℕ → List ℕ
+refusal rule line = codes "refused " ++ rule_word rule ++ count_text (codes " line ") line ++ 10 ∷ []
+
+-- some of these bytes, from the front on, were appended
+abbrev pub IsFrontPrinted : List ℕ → Option (List ℕ) → Option (List ℕ) → Type 0
+IsFrontPrinted bytes old new = (k : ℕ) × (new ≡ append_known old (take k bytes))

@@ -1,0 +1,29 @@
+-- What is read of a text, and why it isn't.
+use Rattle.std.specs.Prelude.{◌≡◌, ℕ, ◌≤◌, ◌<◌, List, [], ◌++◌, length, None, Some, IsSome, IfSome, Result, IsErrOf}
+use Rattle.std.specs.Option.{option_map}
+use Rattle.desij.specs.Outside.{SeenSource, Rose, named}
+use Rattle.desij.specs.declared.reading.TextError.{TextError}
+use Rattle.desij.specs.declared.reading.TextError.TheVariants as text_error
+
+-- This is the text of that name, where texts are told: the whole of it, unless that is longer than most. The rest is left.
+pub record ReadsUpTo (most : ℕ) (name text : List ℕ) (old new : SeenSource) : Type 0 where
+  pub told : IsSome old.texts → named old.texts name ≡ option_map (λ (bs : List ℕ). text ++ bs) new.left
+  pub some_left : IsSome old.texts → IsSome new.left
+  pub at_most : length text ≤ most
+  pub rest : length text < most → IfSome new.left (λ bs. bs ≡ [])
+
+-- this is the whole text of that name, where texts are told, and nothing of it is left
+pub record ReadsWhole (name text : List ℕ) (old new : SeenSource) : Type 0 where
+  pub told : IsSome old.texts → named old.texts name ≡ Some text
+  pub nothing_left : IfSome new.left (λ bs. bs ≡ [])
+
+-- the texts are told, and none has that name
+pub record IsMissing (name : List ℕ) (seen : SeenSource) : Type 0 where
+  pub told : IsSome seen.texts
+  pub unnamed : named seen.texts name ≡ None
+
+-- the count of faults never falls; it rose where the text wasn't read, or the text is missing, or memory ran out
+pub record HasTextCause {T : Type 0} (name : List ℕ) (result : Result T TextError) (old new : SeenSource) : Type 0 where
+  pub later : old.faults ≤ new.faults
+  pub failed : IsErrOf result text_error.Failed → Rose old.faults new.faults
+  pub missing : IsErrOf result text_error.Missing → IsMissing name old

@@ -1,0 +1,64 @@
+//! Splits a signal transition graph into components, each written to a file of its own.
+#![tactic(auto)]
+
+mod answer;
+mod calls;
+mod entries;
+mod file_source;
+mod folder_shelf;
+mod memory_shelf;
+mod memory_sink;
+mod memory_source;
+mod outside;
+mod printing;
+mod putting;
+mod reading;
+mod run;
+mod status;
+mod std_sink;
+#[cfg(test)]
+mod tests;
+mod words;
+
+use file_source::FileSource;
+use folder_shelf::FolderShelf;
+use run::run;
+use status::Status;
+use std::env;
+use std::env::Env;
+use std::io::ErrorKind;
+use std::process::ExitCode;
+use std_sink::StdSink;
+use stg_net::NoMemory;
+
+// The words after the program's name. A word that isn't UTF-8 is in no form, and neither are no words.
+fn all_words(rt: &(impl Env + AllocGlobal)) -> Result<Vec<String>, NoMemory> {
+    let mut words = Vec::new(rt.alloc());
+    match env::args(rt) {
+        Ok(args) => {
+            for word in args.skip(1) {
+                words.push(word)?;
+            }
+        }
+        Err(e) if e.kind() == ErrorKind::OutOfMemory => return Err(NoMemory),
+        Err(_) => {}
+    }
+    Ok(words)
+}
+
+fn main(rt: HostRuntime) -> ExitCode {
+    let Ok(words) = all_words(&rt) else {
+        return ExitCode::from(Status::NoMemory as u8);
+    };
+    let mut source = FileSource::new(&rt);
+    let mut shelf = FolderShelf::new(&rt);
+    let mut sink = StdSink::new(&rt);
+    let status = run(
+        rt.alloc(),
+        words.as_slice(),
+        &mut source,
+        &mut shelf,
+        &mut sink,
+    );
+    ExitCode::from(status as u8)
+}

@@ -1,0 +1,94 @@
+//! What a run prints, and how it is written to a sink.
+
+ghost use Rattle.std.specs.Prelude.{◌≡◌, ◌+◌, ◌<◌, ◌++◌, IfOk, OnOk, OnErr};
+ghost use Rattle.std.specs.Io.KnownBytes.{append_known};
+ghost use Rattle.desij.specs.Outside.{HasCause};
+ghost use Rattle.desij.specs.Printing.{IsFrontPrinted, count_text, net_sizes, part_line, printed, refusal, rule_word, signal_counts};
+
+use crate::outside::{Failed, Sink};
+use astg_read::Rule;
+use itoa::Buffer;
+use std::alloc::Global;
+use stg_decomp::{Answer, Part};
+use stg_net::{Net, NoMemory, Seq, Text};
+
+/// A line for each part, and their number.
+pub fn printed_text(alloc: Global, answer: &Answer) -> Result<Text, NoMemory>
+    ensures { IfOk result (λ text. text ≡ printed answer.now.parts) }
+{
+    let mut text = Seq::new(alloc);
+    for (k, part) in answer.parts.as_slice().iter().enumerate() {
+        push_line(&mut text, k + 1, part)?;
+    }
+    push_count(&mut text, b"done ", answer.parts.len())?;
+    text.push(b'\n')?;
+    Ok(text)
+}
+
+#[tactic(auto, unfolding(crate::specs::Printing::part_line))]
+fn push_line(text: &mut Text, number: usize, part: &Part) -> Result<(), NoMemory>
+    ensures { OnOk result (text.new ≡ text.old ++ part_line number part.now) }
+{
+    push_count(text, b"part ", number)?;
+    push_signals(text, part)?;
+    push_sizes(text, &part.net)?;
+    text.extend_from_slice(b" restored 0\n")?;
+    Ok(())
+}
+
+#[tactic(auto, unfolding(crate::specs::Printing::signal_counts))]
+fn push_signals(text: &mut Text, part: &Part) -> Result<(), NoMemory>
+    ensures { OnOk result (text.new ≡ text.old ++ signal_counts part.now) }
+{
+    let own = part.own.len();
+    push_count(text, b" own ", own)?;
+    push_count(text, b" inputs ", part.known.len().saturating_sub(own))
+}
+
+#[tactic(auto, unfolding(crate::specs::Printing::net_sizes))]
+fn push_sizes(text: &mut Text, net: &Net) -> Result<(), NoMemory>
+    ensures { OnOk result (text.new ≡ text.old ++ net_sizes net.now) }
+{
+    push_count(text, b" transitions ", net.trans().len())?;
+    push_count(text, b" places ", net.tokens().len())
+}
+
+#[tactic(auto, unfolding(crate::specs::Printing::count_text))]
+fn push_count(text: &mut Text, word: &[u8], count: usize) -> Result<(), NoMemory>
+    ensures { OnOk result (text.new ≡ text.old ++ count_text word.now count) }
+{
+    text.extend_from_slice(word)?;
+    text.extend_from_slice(Buffer::new().format(count).as_bytes())
+}
+
+/// The line that tells the rule that a text breaks, and where.
+pub fn refusal_text(alloc: Global, rule: Rule, line: u32) -> Result<Text, NoMemory>
+    ensures { IfOk result (λ text. text ≡ refusal rule line) }
+{
+    let mut text = Seq::from_slice(alloc, b"refused ")?;
+    text.extend_from_slice(word_of(rule).as_bytes())?;
+    push_count(&mut text, b" line ", line as usize)?;
+    text.push(b'\n')?;
+    Ok(text)
+}
+
+fn word_of(rule: Rule) -> &'static str
+    ensures { result.now ≡ rule_word rule }
+{
+    match rule {
+        Rule::NotBuilt => "NotBuilt",
+    }
+}
+
+/// Writes all of these bytes.
+pub fn write_all<K: Sink>(sink: &mut K, bytes: &[u8]) -> Result<(), Failed>
+    ensures ok { OnOk result ((K.seen sink.new).written ≡ append_known (K.seen sink.old).written bytes.now) }
+    ensures err { OnErr result (IsFrontPrinted bytes.now (K.seen sink.old).written (K.seen sink.new).written) }
+    ensures cause { HasCause (K.seen sink.old).faults (K.seen sink.new).faults result }
+{
+    let mut at = 0;
+    while at < bytes.len() {
+        at += sink.write(&bytes[at..])?;
+    }
+    Ok(())
+}

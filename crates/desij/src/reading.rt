@@ -1,0 +1,81 @@
+//! A text of a source, selected and read.
+
+ghost use Rattle.std.specs.Prelude.{◌≡◌, ℕ, ◌+◌, ◌<◌, ◌≤◌, ◌++◌, List, [], length, IfOk, IfSome, IsErrOf};
+ghost use Rattle.std.specs.Option.{option_map};
+ghost use Rattle.desij.specs.Outside.{Rose};
+ghost use Rattle.desij.specs.Reading.{HasTextCause, ReadsUpTo};
+
+use crate::outside::{Failed, Source};
+use std::alloc::Global;
+use stg_net::{NoMemory, Seq, Text};
+
+/// One byte more than a text may have.
+pub const MOST: usize = 1_048_577;
+
+const PIECE: usize = 4096;
+
+/// Why a text wasn't read.
+#[derive(Clone, Copy, Debug, PartialEq, Eq)]
+pub enum TextError {
+    Failed,
+    Missing,
+    NoMemory,
+}
+
+impl From<Failed> for TextError {
+    ghost use Rattle.desij.specs.declared.reading.TextError.TheVariants as text_error;
+
+    ghost from_gives = { λ _ e. e ≡ text_error.Failed };
+
+    fn from(_: Failed) -> Self {
+        TextError::Failed
+    }
+}
+
+impl From<NoMemory> for TextError {
+    ghost use Rattle.desij.specs.declared.reading.TextError.TheVariants as text_error;
+
+    ghost from_gives = { λ _ e. e ≡ text_error.NoMemory };
+
+    fn from(_: NoMemory) -> Self {
+        TextError::NoMemory
+    }
+}
+
+/// Selects a text and reads it, up to its end or to `MOST` bytes.
+pub fn read_text<S: Source>(alloc: Global, source: &mut S, name: &str) -> Result<Text, TextError>
+    requires { (S.seen source.old).selects < 8 }
+    ensures text { IfOk result (λ text. ReadsUpTo MOST name.now text (S.seen source.old) (S.seen source.new)) }
+    ensures selects { (S.seen source.new).selects ≡ (S.seen source.old).selects + 1 }
+    ensures cause { HasTextCause name.now result (S.seen source.old) (S.seen source.new) }
+    ensures kept { (S.seen source.new).texts ≡ (S.seen source.old).texts }
+{
+    if !source.select(name)? {
+        return Err(TextError::Missing);
+    }
+    read_rest(alloc, source)
+}
+
+// Reads what is left of the selected text, up to its end or to `MOST` bytes.
+fn read_rest<S: Source>(alloc: Global, source: &mut S) -> Result<Text, TextError>
+    ensures told { IfOk result (λ text. (S.seen source.old).left ≡ option_map (λ (bs : List ℕ). text ++ bs) (S.seen source.new).left) }
+    ensures at_most { IfOk result (λ text. length text ≤ MOST) }
+    ensures whole { IfOk result (λ text. length text < MOST → IfSome (S.seen source.new).left (λ bs. bs ≡ [])) }
+    ensures failed { IsErrOf result TextError.Failed → Rose (S.seen source.old).faults (S.seen source.new).faults }
+    ensures not_missing { IsErrOf result TextError.Missing → ⊥ }
+    ensures later { (S.seen source.old).faults ≤ (S.seen source.new).faults }
+    ensures selects { (S.seen source.new).selects ≡ (S.seen source.old).selects }
+    ensures kept { (S.seen source.new).texts ≡ (S.seen source.old).texts }
+{
+    let mut text: Text = Seq::new(alloc);
+    let mut piece = [0u8; PIECE];
+    while text.len() < MOST {
+        let room = PIECE.min(MOST - text.len());
+        let count = source.read(&mut piece[..room])?;
+        if count == 0 {
+            return Ok(text);
+        }
+        text.extend_from_slice(&piece[..count])?;
+    }
+    Ok(text)
+}

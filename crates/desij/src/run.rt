@@ -1,0 +1,159 @@
+//! A run of the program: what the words say is done, and the status tells how it ended.
+
+ghost use Rattle.std.specs.Prelude.{◌≡◌, ◌≢◌, ◌⊎◌, ◌≤◌, All, None, Some, IsSomeAnd, length};
+ghost use Rattle.std.specs.Option.{option_copied};
+ghost use Rattle.astg_write.specs.Writable.{IsWritable};
+ghost use Rattle.stg_decomp.specs.declared.part.Part.{Part};
+ghost use Rattle.desij.specs.Ends.{Ends, Finishes, Refuses};
+ghost use Rattle.desij.specs.Run.{seen, files_named, NoneRose, TellsAccepted, TellsRefused, TellsUsage, RefusesText, WritesParts, CannotPrint, CannotPut, CannotRead, LacksMemory};
+ghost use Rattle.desij.specs.Words.{spec_word};
+ghost use Rattle.astg_read.specs.declared.rule.Rule.TheVariants.{NotBuilt};
+
+use crate::answer::make_answer;
+use crate::outside::{PutError, Shelf, Sink, Source};
+use crate::printing::{printed_text, refusal_text, write_all};
+use crate::putting::put_parts;
+use crate::reading::{TextError, read_text};
+use crate::status::Status;
+use crate::words::{USAGE, spec_name};
+use astg_read::{ReadError, Rule};
+use std::alloc::Global;
+use stg_decomp::Answer;
+
+/// Does what the words say. A run that the words don't call for prints the usage.
+pub fn run<S: Source, F: Shelf, K: Sink>(
+    alloc: Global,
+    words: &[String],
+    source: &mut S,
+    shelf: &mut F,
+    sink: &mut K,
+) -> Status
+    requires { (S.seen source.old).selects ≡ 0 }
+
+    // What each status tells.
+    ensures done { result ≡ Status.Done → IsSomeAnd (spec_word words.now) (λ name. WritesParts name
+        (seen (S.seen source.old) (F.seen shelf.old) (K.seen sink.old))
+        (seen (S.seen source.new) (F.seen shelf.new) (K.seen sink.new))) }
+    ensures bad_words { result ≡ Status.BadWords → TellsUsage (spec_word words.now)
+        (seen (S.seen source.old) (F.seen shelf.old) (K.seen sink.old))
+        (seen (S.seen source.new) (F.seen shelf.new) (K.seen sink.new)) }
+    ensures refused { result ≡ Status.Refused → IsSomeAnd (spec_word words.now) (λ name. RefusesText name
+        (seen (S.seen source.old) (F.seen shelf.old) (K.seen sink.old))
+        (seen (S.seen source.new) (F.seen shelf.new) (K.seen sink.new))) }
+    ensures read_fault { result ≡ Status.ReadFault → IsSomeAnd (spec_word words.now) (λ name. CannotRead name
+        (seen (S.seen source.old) (F.seen shelf.old) (K.seen sink.old))
+        (seen (S.seen source.new) (F.seen shelf.new) (K.seen sink.new))) }
+    ensures write_fault { result ≡ Status.WriteFault → IsSomeAnd (spec_word words.now) (λ name. CannotPut name
+        (seen (S.seen source.old) (F.seen shelf.old) (K.seen sink.old))
+        (seen (S.seen source.new) (F.seen shelf.new) (K.seen sink.new))) }
+    ensures print_fault { result ≡ Status.PrintFault → CannotPrint (spec_word words.now)
+        (seen (S.seen source.old) (F.seen shelf.old) (K.seen sink.old))
+        (seen (S.seen source.new) (F.seen shelf.new) (K.seen sink.new)) }
+    ensures no_memory { result ≡ Status.NoMemory → IsSomeAnd (spec_word words.now) (λ name. LacksMemory name
+        (seen (S.seen source.old) (F.seen shelf.old) (K.seen sink.old))
+        (seen (S.seen source.new) (F.seen shelf.new) (K.seen sink.new))) }
+    ensures serve_fault { result ≢ Status.ServeFault }
+
+    // Where a status has to come.
+    ensures without_form { spec_word words.now ≡ None → (result ≡ Status.BadWords) ⊎ (result ≡ Status.PrintFault) }
+    ensures not_accepted { NoneRose
+        (seen (S.seen source.old) (F.seen shelf.old) (K.seen sink.old))
+        (seen (S.seen source.new) (F.seen shelf.new) (K.seen sink.new))
+        → TellsRefused (spec_word words.now) (S.seen source.old)
+        → (result ≡ Status.Refused) ⊎ (result ≡ Status.NoMemory) }
+    ensures accepted { NoneRose
+        (seen (S.seen source.old) (F.seen shelf.old) (K.seen sink.old))
+        (seen (S.seen source.new) (F.seen shelf.new) (K.seen sink.new))
+        → TellsAccepted (spec_word words.now) (S.seen source.old)
+        → (result ≡ Status.Done) ⊎ (result ≡ Status.NoMemory) }
+    ensures selects { (S.seen source.new).selects ≡ files_named (spec_word words.now) }
+    ensures kept { (S.seen source.new).texts ≡ (S.seen source.old).texts }
+{
+    perform(alloc, spec_name(words), source, shelf, sink)
+}
+
+// Decomposes the file, where the words name one.
+fn perform<S: Source, F: Shelf, K: Sink>(
+    alloc: Global,
+    file: Option<&str>,
+    source: &mut S,
+    shelf: &mut F,
+    sink: &mut K,
+) -> Status
+    requires { (S.seen source.old).selects ≡ 0 }
+    ensures ends { Ends (option_copied file.entry) result
+        (seen (S.seen source.old) (F.seen shelf.old) (K.seen sink.old))
+        (seen (S.seen source.new) (F.seen shelf.new) (K.seen sink.new)) }
+    ensures selects { (S.seen source.new).selects ≡ files_named (option_copied file.entry) }
+    ensures kept { (S.seen source.new).texts ≡ (S.seen source.old).texts }
+{
+    let Some(name) = file else {
+        return match write_all(sink, USAGE) {
+            Ok(()) => Status::BadWords,
+            Err(_) => Status::PrintFault,
+        };
+    };
+    decompose(alloc, name, source, shelf, sink)
+}
+
+// Decomposes the text of that name.
+fn decompose<S: Source, F: Shelf, K: Sink>(
+    alloc: Global,
+    name: &str,
+    source: &mut S,
+    shelf: &mut F,
+    sink: &mut K,
+) -> Status
+    requires { (S.seen source.old).selects ≡ 0 }
+    ensures ends { Ends (Some name.now) result
+        (seen (S.seen source.old) (F.seen shelf.old) (K.seen sink.old))
+        (seen (S.seen source.new) (F.seen shelf.new) (K.seen sink.new)) }
+    ensures selects { (S.seen source.new).selects ≡ 1 }
+    ensures kept { (S.seen source.new).texts ≡ (S.seen source.old).texts }
+{
+    let text = match read_text(alloc, source, name) {
+        Ok(text) => text,
+        Err(TextError::NoMemory) => return Status::NoMemory,
+        Err(_) => return Status::ReadFault,
+    };
+    match make_answer(alloc, text.as_slice()) {
+        Ok(answer) => finish(alloc, &answer, shelf, sink),
+        Err(ReadError::Refused { rule, line }) => refuse(alloc, rule, line, sink),
+        Err(ReadError::NoMemory) => Status::NoMemory,
+    }
+}
+
+// Puts the files of an answer and prints its lines.
+fn finish<F: Shelf, K: Sink>(alloc: Global, answer: &Answer, shelf: &mut F, sink: &mut K) -> Status
+    requires few { length answer.now.parts ≤ 250 }
+    requires fit { All (λ (p : Part). IsWritable p.net) answer.now.parts }
+    ensures { Finishes answer.now.parts result (F.seen shelf.old) (F.seen shelf.new) (K.seen sink.old) (K.seen sink.new) }
+{
+    let Ok(text) = printed_text(alloc, answer) else {
+        return Status::NoMemory;
+    };
+    match put_parts(alloc, answer, shelf) {
+        Ok(()) => {}
+        Err(PutError::Failed) => return Status::WriteFault,
+        Err(PutError::NoMemory) => return Status::NoMemory,
+    }
+    match write_all(sink, text.as_slice()) {
+        Ok(()) => Status::Done,
+        Err(_) => Status::PrintFault,
+    }
+}
+
+// Prints the refusal of a text.
+fn refuse<K: Sink>(alloc: Global, rule: Rule, line: u32, sink: &mut K) -> Status
+    requires rule { rule ≡ NotBuilt }
+    requires line { line ≡ 0 }
+    ensures { Refuses result (K.seen sink.old) (K.seen sink.new) }
+{
+    let Ok(text) = refusal_text(alloc, rule, line) else {
+        return Status::NoMemory;
+    };
+    match write_all(sink, text.as_slice()) {
+        Ok(()) => Status::Refused,
+        Err(_) => Status::PrintFault,
+    }
+}
