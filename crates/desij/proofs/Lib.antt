@@ -2,3 +2,4 @@ pub mod EntryLemmas
 pub mod WriteLemmas
 pub mod AnswerLemmas
 pub mod RunLemmas
+pub mod Examples

@@ -1,0 +1,68 @@
+-- The words and the answer of worked texts, computed.
+use Rattle.std.proofs.Common.{◌≡◌, ℕ, List, [], ◌∷◌, ◌++◌, None, Some, refl, codes, map}
+use Rattle.std.specs.Fmt.{digits}
+use Rattle.std.specs.Option.{option_map}
+use Rattle.astg_write.specs.ComponentText.{component_text}
+use Rattle.desij.specs.Answering.{answer_of, part_bytes}
+use Rattle.desij.specs.Files.{part_name}
+use Rattle.desij.specs.Words.{file_of}
+use Rattle.desij.specs.Printing.{printed, count_text, signal_counts, net_sizes, part_line}
+
+abbrev c_element : List ℕ
+c_element = codes ".model c\n"
+    ++ codes ".inputs a b\n"
+    ++ codes ".outputs c\n"
+    ++ codes ".graph\n"
+    ++ codes "a+ c+\n"
+    ++ codes "b+ c+\n"
+    ++ codes "c+ a- b-\n"
+    ++ codes "a- c-\n"
+    ++ codes "b- c-\n"
+    ++ codes "c- a+ b+\n"
+    ++ codes ".marking { <c-,a+> <c-,b+> }\n"
+    ++ codes ".end\n"
+
+-- what is printed for the C-element
+c_element-printed : option_map printed (answer_of c_element) ≡ Some (codes "part 1 own 1 inputs 2 transitions 6 places 8 restored 0\n" ++ codes "done 1\n")
+unfolding answer_of digits count_text signal_counts net_sizes part_line
+c_element-printed = refl
+
+-- the one file of the C-element
+c_element-file : option_map (λ parts. part_bytes parts 0) (answer_of c_element) ≡ Some (
+    codes ".model part1\n"
+    ++ codes ".inputs a b\n"
+    ++ codes ".outputs c\n"
+    ++ codes ".graph\n"
+    ++ codes "a+ p1\n"
+    ++ codes "c+ p2 p3\n"
+    ++ codes "b+ p4\n"
+    ++ codes "a- p5\n"
+    ++ codes "b- p6\n"
+    ++ codes "c- p7 p8\n"
+    ++ codes "p1 c+\n"
+    ++ codes "p2 a-\n"
+    ++ codes "p3 b-\n"
+    ++ codes "p4 c+\n"
+    ++ codes "p5 c-\n"
+    ++ codes "p6 c-\n"
+    ++ codes "p7 a+\n"
+    ++ codes "p8 b+\n"
+    ++ codes ".marking { p7 p8 }\n"
+    ++ codes ".end\n")
+unfolding answer_of digits component_text
+c_element-file = refl
+
+-- files are numbered from 1
+first_name : part_name 0 ≡ codes "part1.g"
+unfolding digits
+first_name = refl
+
+-- the words name a file only after `decompose`, and one that isn't empty and doesn't begin with a dash
+named_files : map file_of ((codes "decompose" ∷ codes "a.g" ∷ []) ∷ (codes "decompose" ∷ codes "-a.g" ∷ []) ∷ (codes "decompose" ∷ [] ∷ []) ∷ (codes "decompose" ∷ []) ∷ (codes "decompose" ∷ codes "a.g" ∷ codes "b.g" ∷ []) ∷ (codes "measure" ∷ codes "a.g" ∷ []) ∷ [] ∷ [])
+    ≡ Some (codes "a.g") ∷ None ∷ None ∷ None ∷ None ∷ None ∷ None ∷ []
+named_files = refl
+
+-- a text that isn't of the form has no answer
+no_lines : answer_of [] ≡ None
+unfolding answer_of
+no_lines = refl
