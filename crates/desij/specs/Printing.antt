@@ -4,7 +4,7 @@ use Rattle.std.specs.Io.KnownBytes.{append_known}
 use Rattle.stg_net.specs.Net.{NetLists}
 use Rattle.stg_decomp.specs.declared.part.Part.{Part}
 use Rattle.astg_read.specs.declared.rule.Rule.{Rule}
-use Rattle.astg_read.specs.declared.rule.Rule.TheVariants.{NotBuilt}
+use Rattle.astg_read.specs.Refusals.{rule_text}
 
 -- a word and a number
 unfoldable pub count_text : List ℕ → ℕ → List ℕ
@@ -35,12 +35,9 @@ part_lines number (p ∷ parts) = part_line number p ++ part_lines (number + 1) 
 abbrev pub printed : List Part → List ℕ
 printed parts = part_lines 1 parts ++ count_text (codes "done ") (length parts) ++ 10 ∷ []
 
-abbrev pub rule_word : Rule → List ℕ
-rule_word NotBuilt = codes "NotBuilt"
-
 -- the line that tells the rule that a text breaks, and where
 abbrev pub refusal : Rule → ℕ → List ℕ
-refusal rule line = codes "refused " ++ rule_word rule ++ count_text (codes " line ") line ++ 10 ∷ []
+refusal rule line = codes "refused " ++ rule_text rule ++ count_text (codes " line ") line ++ 10 ∷ []
 
 -- some of these bytes, from the front on, were appended
 abbrev pub IsFrontPrinted : List ℕ → Option (List ℕ) → Option (List ℕ) → Type 0

@@ -2,13 +2,14 @@
 
 ghost use Rattle.std.specs.Prelude.{◌≡◌, ◌+◌, ◌<◌, ◌++◌, IfOk, OnOk, OnErr};
 ghost use Rattle.std.specs.Io.KnownBytes.{append_known};
+ghost use Rattle.std.specs.String.{string_bytes};
 ghost use Rattle.desij.specs.Outside.{HasCause};
-ghost use Rattle.desij.specs.Printing.{IsFrontPrinted, count_text, net_sizes, part_line, printed, refusal, rule_word, signal_counts};
+ghost use Rattle.desij.specs.Printing.{IsFrontPrinted, count_text, net_sizes, part_line, printed, refusal, signal_counts};
 
 use crate::outside::{Failed, Sink};
 use astg_read::Rule;
 use itoa::Buffer;
-use std::alloc::Global;
+use std::alloc::{AllocError, Global};
 use stg_decomp::{Answer, Part};
 use stg_net::{Net, NoMemory, Seq, Text};
 
@@ -62,22 +63,11 @@ fn push_count(text: &mut Text, word: &[u8], count: usize) -> Result<(), NoMemory
 }
 
 /// The line that tells the rule that a text breaks, and where.
-pub fn refusal_text(alloc: Global, rule: Rule, line: u32) -> Result<Text, NoMemory>
-    ensures { IfOk result (λ text. text ≡ refusal rule line) }
+#[tactic(auto, unfolding(crate::specs::Printing::count_text))]
+pub fn refusal_text(alloc: Global, rule: Rule, line: u32) -> Result<String, AllocError>
+    ensures { IfOk result (λ text. string_bytes text ≡ refusal rule line) }
 {
-    let mut text = Seq::from_slice(alloc, b"refused ")?;
-    text.extend_from_slice(word_of(rule).as_bytes())?;
-    push_count(&mut text, b" line ", line as usize)?;
-    text.push(b'\n')?;
-    Ok(text)
-}
-
-fn word_of(rule: Rule) -> &'static str
-    ensures { result.now ≡ rule_word rule }
-{
-    match rule {
-        Rule::NotBuilt => "NotBuilt",
-    }
+    format!(in alloc; "refused {rule} line {line}\n")
 }
 
 /// Writes all of these bytes.

@@ -152,7 +152,7 @@ fn refuse<K: Sink>(alloc: Global, rule: Rule, line: u32, sink: &mut K) -> Status
     let Ok(text) = refusal_text(alloc, rule, line) else {
         return Status::NoMemory;
     };
-    match write_all(sink, text.as_slice()) {
+    match write_all(sink, text.as_bytes()) {
         Ok(()) => Status::Refused,
         Err(_) => Status::PrintFault,
     }
