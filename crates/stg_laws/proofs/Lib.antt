@@ -1,0 +1,10 @@
+pub mod Runs
+pub mod Names
+pub mod Cuts
+pub mod Inputs
+pub mod Keeping
+pub mod Renumbering
+pub mod Deriving
+pub mod Correctness
+pub mod Nets
+pub mod Ordering

@@ -1,0 +1,9 @@
+pub mod Cuts
+pub mod Deterministic
+pub mod Stgs
+pub mod Joint
+pub mod Correct
+pub mod Closed
+pub mod Faithful
+pub mod Renumbered
+pub mod Laws

@@ -1,0 +1,20 @@
+//! The laws of runs: what components mean, for all graphs. Nothing here does work at run time.
+#![tactic(auto)]
+
+ghost use Rattle.stg_laws.specs.Laws.{CutTellsInputs, FaithfulPartsAreCorrect, OrderRenumbers};
+
+/// Components that follow the specification, keep its traces and agree with it on their own
+/// transitions are a correct decomposition of it, where it is deterministic.
+pub fn law_decomposes()
+    ensures { FaithfulPartsAreCorrect }
+{}
+
+/// A net in order means the same.
+pub fn law_ordered()
+    ensures { OrderRenumbers }
+{}
+
+/// What the input places of a group's transitions hold is a function of the run's cut.
+pub fn law_inputs()
+    ensures { CutTellsInputs }
+{}
