@@ -3,3 +3,4 @@ pub mod WriteLemmas
 pub mod AnswerLemmas
 pub mod RunLemmas
 pub mod Examples
+pub mod EndLemmas

@@ -1,11 +1,18 @@
 -- What the end of a run tells of its status.
-use Rattle.std.proofs.Common.{◌≡◌, ℕ, false, true, ◌≤◌, ◌<◌, ◌⊎◌, List, [], ◌++◌, Option, None, Some, IsSome, IsSomeAnd, IfSome, inl, inr, refl, sym, ap, ◌∙◌, subst, length, length-append, arith, append-nil}
+use Rattle.std.proofs.Common.{◌≡◌, ℕ, false, true, ◌≤◌, ◌<◌, ◌⊎◌, List, [], ◌++◌, Option, None, Some, IsSome, IsSomeAnd, IfSome, inl, inr, refl, sym, ap, ◌∙◌, subst, zero, suc, ◌+◌, length, length-append, arith, append-nil}
 use Rattle.std.specs.Option.{option_map}
 use Rattle.std.proofs.lemmas.Bool.{false≢true}
+use Rattle.std.specs.FinMap.{insert}
+use Rattle.std.proofs.Math.ListN.{get_or-map}
+use Rattle.std.proofs.lemmas.List.{length-map}
+use Rattle.astg_write.specs.ComponentText.{component_text}
+use Rattle.stg_decomp.specs.declared.part.Part.{Part}
+use Rattle.stg_decomp.specs.Parts.{no_part, part_at, nets_of}
 use Rattle.desij.specs.Answering.{answer_of}
+use Rattle.desij.specs.Files.{part_name, with_parts, HasParts, net_at, with_nets}
 use Rattle.desij.specs.Ends.{Ends}
 use Rattle.desij.specs.Outside.{Files, SeenSource, named}
-use Rattle.desij.specs.Run.{Seen, NoneRose, IsRefused, TellsAccepted}
+use Rattle.desij.specs.Run.{Seen, NoneRose, IsRefused, TellsAccepted, WritesParts, WritesComponents}
 use Rattle.desij.specs.declared.status.Status.{Status}
 use Rattle.desij.specs.declared.status.Status.TheVariants.{Done, BadWords, Refused, ReadFault, WriteFault, PrintFault, NoMemory, ServeFault}
 use Rattle.desij.proofs.AnswerLemmas.{accepted_is_short}
@@ -53,3 +60,40 @@ completes (Some name) ReadFault old new ends quiet told = absurd (elim ends.sour
 completes (Some name) WriteFault old new ends quiet told = absurd (quiet.shelf ends.shelf.rose)
 completes (Some name) PrintFault old new ends quiet told = absurd (elim ends [ inl refusal ↦ quiet.sink refusal.sink.rose | inr lines ↦ quiet.sink lines.sink.rose ])
 completes (Some name) ServeFault old new ends quiet told = absurd ends
+
+-- the files of the parts are those of their nets
+with_parts-nets : (parts : List Part) (k : ℕ) (m : Files) → with_parts parts k m ≡ with_nets (nets_of parts) k m
+with_parts-nets parts zero m = refl
+with_parts-nets parts (suc k) m =
+    let net : (part_at parts k).net ≡ net_at (nets_of parts) k = sym (get_or-map (λ (p : Part). p.net) parts k no_part) in
+    λ i. insert (with_parts-nets parts k m i) (part_name k) (component_text (net i) (k + 1))
+
+-- what is put of the parts is put of their nets
+puts_nets : (parts : List Part) (old new : Option Files) → HasParts parts (length parts) old new → new ≡ option_map (with_nets (nets_of parts) (length (nets_of parts))) old
+puts_nets parts None new put = put
+puts_nets parts (Some m) new put =
+    put ∙ ap Some (with_parts-nets parts (length parts) m) ∙ ap (λ k. Some (with_nets (nets_of parts) k m)) (sym (length-map parts (λ (p : Part). p.net)))
+
+-- a run that is done has written components
+pub done_means : (form : Option (List ℕ)) (s : Status) (old new : Seen) → Ends form s old new → s ≡ Done → IsSomeAnd form (λ name. WritesComponents name old new)
+done_means form Done old new ends is = go form ends
+  where
+    go : (form : Option (List ℕ)) → IsSomeAnd form (λ name. WritesParts name old new) → IsSomeAnd form (λ name. WritesComponents name old new)
+    go None ends = ends
+    go (Some name) ends =
+        let meaning = ends.source.meaning in record {
+          text = ends.source.text;
+          read = ends.source.read;
+          spec = meaning.spec;
+          stands = meaning.stands;
+          nets = nets_of ends.parts;
+          put = puts_nets ends.parts old.shelf.files new.shelf.files ends.shelf;
+          components = meaning.components;
+        }
+done_means form BadWords old new ends is = cc
+done_means form Refused old new ends is = cc
+done_means form ReadFault old new ends is = cc
+done_means form WriteFault old new ends is = cc
+done_means form PrintFault old new ends is = cc
+done_means form NoMemory old new ends is = cc
+done_means form ServeFault old new ends is = cc

@@ -1,7 +1,10 @@
 -- The files of an answer.
-use Rattle.std.specs.Prelude.{◌≡◌, ℕ, ◌+◌, ◌<◌, ◌≤◌, zero, suc, List, ◌++◌, length, Option, Result, Ok, Err, codes, decimal}
+use Rattle.std.specs.Prelude.{◌≡◌, ℕ, ◌+◌, ◌<◌, ◌≤◌, zero, suc, List, ◌++◌, length, Option, Result, Ok, Err, slice_index_or, codes, decimal}
 use Rattle.std.specs.Option.{option_map}
 use Rattle.std.specs.FinMap.{insert, remove}
+use Rattle.stg_net.specs.Net.{NetLists}
+use Rattle.astg_write.specs.ComponentText.{component_text}
+use Rattle.stg_decomp.specs.Parts.{no_part}
 use Rattle.desij.specs.Outside.{Files}
 use Rattle.desij.specs.Answering.{part_bytes}
 use Rattle.stg_decomp.specs.declared.part.Part.{Part}
@@ -30,3 +33,12 @@ abbrev pub PutsParts : List Part → Result (Unit {0}) PutError → Option Files
 PutsParts parts (Ok done) old new = HasParts parts (length parts) old new
 PutsParts parts (Err put_error.Failed) old new = (k : ℕ) × (k < length parts) × FailsAt parts k old new
 PutsParts parts (Err put_error.NoMemory) old new = (k : ℕ) × (k ≤ length parts) × HasParts parts k old new
+
+-- the net of that number
+abbrev pub net_at : List NetLists → ℕ → NetLists
+net_at nets k = slice_index_or nets k no_part.net
+
+-- the files with those of the first k nets set: each is the component text of its net
+abbrev pub with_nets : List NetLists → ℕ → Files → Files
+with_nets nets zero m = m
+with_nets nets (suc k) m = insert (with_nets nets k m) (part_name k) (component_text (net_at nets k) (k + 1))

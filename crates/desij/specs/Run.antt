@@ -1,8 +1,13 @@
 -- What a run of the program does, for each status with which it ends.
 use Rattle.std.specs.Prelude.{◌≡◌, ℕ, ◌≤◌, ◌<◌, ◌⊎◌, List, length, Option, None, Some, IsSome, IsSomeAnd, option_and_then}
 use Rattle.std.specs.Io.KnownBytes.{append_known}
-use Rattle.desij.specs.Answering.{answer_of}
-use Rattle.desij.specs.Files.{FailsAt, HasParts}
+use Rattle.std.specs.Option.{option_map}
+use Rattle.stg_net.specs.Net.{NetLists}
+use Rattle.stg_net.specs.Spec.{SpecLists}
+use Rattle.stg_laws.specs.Faithful.{AreComponents}
+use Rattle.astg_read.specs.Reading.{reading}
+use Rattle.desij.specs.Answering.{answer_of, HasMeaning}
+use Rattle.desij.specs.Files.{FailsAt, HasParts, with_nets}
 use Rattle.desij.specs.Outside.{SeenSource, SeenShelf, SeenSink, Rose, named}
 use Rattle.desij.specs.Printing.{IsFrontPrinted, printed, refusal}
 use Rattle.desij.specs.Reading.{IsMissing, ReadsUpTo, ReadsWhole}
@@ -34,11 +39,12 @@ pub record IsRefused (name : List ℕ) (old new : SeenSource) : Type 0 where
   pub read : ReadsUpTo 1048577 name text old new
   pub refused : answer_of text ≡ None
 
--- the text of that name was read whole, and stands for these parts
+-- the text of that name was read whole, and stands for these parts, whose nets are components of its specification
 pub record IsAccepted (name : List ℕ) (parts : List Part) (old new : SeenSource) : Type 0 where
   pub text : List ℕ
   pub read : ReadsWhole name text old new
   pub accepted : answer_of text ≡ Some parts
+  pub meaning : HasMeaning text parts
 
 -- the first k files of these parts are set, and no other file has changed
 pub record PutsFirst (k : ℕ) (parts : List Part) (old new : SeenShelf) : Type 0 where
@@ -74,6 +80,16 @@ pub record WritesParts (name : List ℕ) (old new : Seen) : Type 0 where
   pub source : IsAccepted name parts old.source new.source
   pub shelf : PutsAll parts old.shelf new.shelf
   pub sink : Prints (printed parts) old.sink new.sink
+
+-- The text stands for a specification. Files with the component texts of some nets were put, and no other file has changed. These nets are components of the specification: each has exactly its traces, and together they are a correct decomposition of it, where it is deterministic.
+pub record WritesComponents (name : List ℕ) (old new : Seen) : Type 0 where
+  pub text : List ℕ
+  pub read : ReadsWhole name text old.source new.source
+  pub spec : SpecLists
+  pub stands : reading text ≡ Some spec
+  pub nets : List NetLists
+  pub put : new.shelf.files ≡ option_map (with_nets nets (length nets)) old.shelf.files
+  pub components : AreComponents spec.net nets
 
 -- a call of the source failed or it has no text of that name, and nothing was put or printed
 pub record CannotRead (name : List ℕ) (old new : Seen) : Type 0 where

@@ -5,7 +5,7 @@ ghost use Rattle.std.specs.Option.{option_copied};
 ghost use Rattle.astg_write.specs.Writable.{IsWritable};
 ghost use Rattle.stg_decomp.specs.declared.part.Part.{Part};
 ghost use Rattle.desij.specs.Ends.{Ends, Finishes, Refuses};
-ghost use Rattle.desij.specs.Run.{seen, files_named, NoneRose, TellsAccepted, TellsRefused, TellsUsage, RefusesText, WritesParts, CannotPrint, CannotPut, CannotRead, LacksMemory};
+ghost use Rattle.desij.specs.Run.{seen, files_named, NoneRose, TellsAccepted, TellsRefused, TellsUsage, RefusesText, WritesComponents, WritesParts, CannotPrint, CannotPut, CannotRead, LacksMemory};
 ghost use Rattle.desij.specs.Words.{spec_word};
 ghost use Rattle.astg_read.specs.declared.rule.Rule.TheVariants.{NotBuilt};
 
@@ -32,6 +32,9 @@ pub fn run<S: Source, F: Shelf, K: Sink>(
 
     // What each status tells.
     ensures done { result ≡ Status.Done → IsSomeAnd (spec_word words.now) (λ name. WritesParts name
+        (seen (S.seen source.old) (F.seen shelf.old) (K.seen sink.old))
+        (seen (S.seen source.new) (F.seen shelf.new) (K.seen sink.new))) }
+    ensures components { result ≡ Status.Done → IsSomeAnd (spec_word words.now) (λ name. WritesComponents name
         (seen (S.seen source.old) (F.seen shelf.old) (K.seen sink.old))
         (seen (S.seen source.new) (F.seen shelf.new) (K.seen sink.new))) }
     ensures bad_words { result ≡ Status.BadWords → TellsUsage (spec_word words.now)

@@ -1,19 +1,40 @@
 -- The parts of a specification.
-use Rattle.std.specs.Prelude.{ℕ, List, [], ◌∷◌, length, map, slice_index_or}
+use Rattle.std.specs.Prelude.{ℕ, Bool, nat_lt, List, [], ◌∷◌, length, map, slice_index_or, if◌then◌else◌}
 use Rattle.std.specs.List.{range_with_len}
-use Rattle.stg_net.specs.declared.signal.Kind.TheVariants.{Output}
-use Rattle.stg_net.specs.Net.{NetLists}
-use Rattle.stg_net.specs.Ordered.{signals_of_kind, ordered}
+use Rattle.stg_net.specs.declared.signal.Signal.{Signal}
+use Rattle.stg_net.specs.Net.{NetLists, signal_at}
+use Rattle.stg_net.specs.Ordered.{numbers_where, ordered}
 use Rattle.stg_net.specs.Component.{component}
+use Rattle.stg_laws.specs.Stgs.{is_driven}
 use Rattle.stg_decomp.specs.declared.part.Part.{Part}
 
--- the part of one output, which knows every signal
-abbrev pub part_of : NetLists → ℕ → Part
-part_of n output = record { net = ordered (component (output ∷ []) n); own = output ∷ []; known = range_with_len 0 (length n.signals) }
+-- whether the signal of that number is an output or internal
+abbrev pub is_driven_at : List Signal → ℕ → Bool
+is_driven_at signals s = is_driven (signal_at signals s).kind
 
--- one part for each output, in the order of the signals
+-- the outputs and internal signals, in order
+abbrev pub driven_signals : List Signal → List ℕ
+driven_signals signals = numbers_where (is_driven_at signals) (length signals)
+
+-- which of these own signals another part knows, where there are so many parts and each knows every signal
+abbrev pub shared : ℕ → List ℕ → List ℕ
+shared many own = if nat_lt 1 many then own else []
+
+-- the part of one output or internal signal, beside so many parts; it knows every signal
+abbrev pub part_of : NetLists → ℕ → ℕ → Part
+part_of n many signal = record {
+  net = ordered (component (signal ∷ []) (shared many (signal ∷ [])) n);
+  own = signal ∷ [];
+  known = range_with_len 0 (length n.signals);
+}
+
+-- one part for each output and internal signal, in the order of the signals
 abbrev pub parts_of : NetLists → List Part
-parts_of n = map (part_of n) (signals_of_kind n.signals Output)
+parts_of n = map (part_of n (length (driven_signals n.signals))) (driven_signals n.signals)
+
+-- the nets of the parts
+abbrev pub nets_of : List Part → List NetLists
+nets_of parts = map (λ (p : Part). p.net) parts
 
 -- a part without anything, which stands at no number
 abbrev pub no_part : Part

@@ -8,3 +8,6 @@ pub mod Deriving
 pub mod Correctness
 pub mod Nets
 pub mod Ordering
+pub mod Declaring
+pub mod Wiring
+pub mod Components

@@ -148,7 +148,7 @@ module _ (n : NetLists) (net : IsNet n) where
   ]
 
   -- a signal keeps its name at its new number
-  same_signal : (s : ℕ) → s < length n.signals → signal_at (ordered n).signals (new_number (signal_order n.signals) s) ≡ signal_at n.signals s
+  pub same_signal : (s : ℕ) → s < length n.signals → signal_at (ordered n).signals (new_number (signal_order n.signals) s) ≡ signal_at n.signals s
   same_signal s below =
       let order = signal_order n.signals in
       let is = signal_order-IsOrder n.signals in

@@ -65,5 +65,9 @@ mixed-ordered : ordered mixed ≡ record {
 mixed-ordered = refl
 
 -- the owner of the second signal
-mixed-component : (component (1 ∷ []) mixed).signals ≡ signal 120 Input ∷ signal 121 Internal ∷ signal 122 Input ∷ signal 119 Input ∷ []
+mixed-component : (component (1 ∷ []) [] mixed).signals ≡ signal 120 Input ∷ signal 121 Internal ∷ signal 122 Input ∷ signal 119 Input ∷ []
 mixed-component = refl
+
+-- where another component knows the own internal signal, it is an output
+mixed-shared : (component (1 ∷ []) (1 ∷ 2 ∷ []) mixed).signals ≡ signal 120 Input ∷ signal 121 Output ∷ signal 122 Input ∷ signal 119 Input ∷ []
+mixed-shared = refl

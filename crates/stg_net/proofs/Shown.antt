@@ -15,28 +15,23 @@ use Rattle.stg_net.proofs.Maps.{All-from_map, AllPairs-from_map, AllPairs-map}
 abbrev name_of : Signal → List ℕ
 name_of s = s.name
 
-shown-name : (own : List ℕ) (k : ℕ) (s : Signal) → name_of (shown own (k, s)) ≡ s.name
-shown-name own k s =
-    elim (list_any (λ o. o == k) own) as (λ b. name_of (cond b s (record s { kind = Input })) ≡ s.name) [ true ↦ refl | false ↦ refl ]
-
 -- the signals that a component sees
-abbrev pub shown_from : List ℕ → ℕ → List Signal → List Signal
-shown_from own k signals = map (shown own) (enumerate_from k signals)
+abbrev pub shown_from : List ℕ → List ℕ → ℕ → List Signal → List Signal
+shown_from own shared k signals = map (shown own shared) (enumerate_from k signals)
 
 -- a component sees the same names
-pub shown-names : (own : List ℕ) (k : ℕ) (signals : List Signal) → map name_of (shown_from own k signals) ≡ map name_of signals
-shown-names own k [] = refl
-shown-names own k (s ∷ signals) =
-    ap (λ n. n ∷ map name_of (shown_from own (k + 1) signals)) (shown-name own k s) ∙ ap (λ ns. s.name ∷ ns) (shown-names own (k + 1) signals)
+pub shown-names : (own shared : List ℕ) (k : ℕ) (signals : List Signal) → map name_of (shown_from own shared k signals) ≡ map name_of signals
+shown-names own shared k [] = refl
+shown-names own shared k (s ∷ signals) = ap (λ ns. s.name ∷ ns) (shown-names own shared (k + 1) signals)
 
-pub length-shown : (own : List ℕ) (k : ℕ) (signals : List Signal) → length (shown_from own k signals) ≡ length signals
-length-shown own k signals = length-map (enumerate_from k signals) (shown own) ∙ length-enumerate_from k signals
+pub length-shown : (own shared : List ℕ) (k : ℕ) (signals : List Signal) → length (shown_from own shared k signals) ≡ length signals
+length-shown own shared k signals = length-map (enumerate_from k signals) (shown own shared) ∙ length-enumerate_from k signals
 
-pub component-IsNet : (own : List ℕ) (n : NetLists) → IsNet n → IsNet (component own n)
-component-IsNet own n net = record {
+pub component-IsNet : (own shared : List ℕ) (n : NetLists) → IsNet n → IsNet (component own shared n)
+component-IsNet own shared n net = record {
   signal_names =
-      AllPairs-from_map name_of (λ (s t : List ℕ). s ≢ t) (shown_from own 0 n.signals)
-      (subst (AllPairs (λ (s t : List ℕ). s ≢ t)) (sym (shown-names own 0 n.signals)) (AllPairs-map name_of (λ (s t : List ℕ). s ≢ t) n.signals net.signal_names));
+      AllPairs-from_map name_of (λ (s t : List ℕ). s ≢ t) (shown_from own shared 0 n.signals)
+      (subst (AllPairs (λ (s t : List ℕ). s ≢ t)) (sym (shown-names own shared 0 n.signals)) (AllPairs-map name_of (λ (s t : List ℕ). s ≢ t) n.signals net.signal_names));
   trans_names = net.trans_names;
   trans_signals = rw length-shown net.trans_signals;
   arcs = net.arcs;
@@ -46,8 +41,8 @@ component-IsNet own n net = record {
   places_fit = net.places_fit;
 }
 
-pub component-within : (own : List ℕ) (n : NetLists) (l : Limits) → IsWithin l n → IsWithin l (component own n)
-component-within own n l within = record {
+pub component-within : (own shared : List ℕ) (n : NetLists) (l : Limits) → IsWithin l n → IsWithin l (component own shared n)
+component-within own shared n l within = record {
   signals = rw length-shown within.signals;
   trans = within.trans;
   places = within.places;
@@ -56,10 +51,10 @@ component-within own n l within = record {
   weights = within.weights;
 }
 
-pub component-named : (own : List ℕ) (n : NetLists) → IsWellNamed n → IsWellNamed (component own n)
-component-named own n named = record {
+pub component-named : (own shared : List ℕ) (n : NetLists) → IsWellNamed n → IsWellNamed (component own shared n)
+component-named own shared n named = record {
   names =
-      All-from_map name_of (λ (s : List ℕ). IsTrue (is_name s)) (shown_from own 0 n.signals)
-      (subst (All (λ (s : List ℕ). IsTrue (is_name s))) (sym (shown-names own 0 n.signals)) (All-map (λ (s : List ℕ). IsTrue (is_name s)) name_of n.signals named.names));
+      All-from_map name_of (λ (s : List ℕ). IsTrue (is_name s)) (shown_from own shared 0 n.signals)
+      (subst (All (λ (s : List ℕ). IsTrue (is_name s))) (sym (shown-names own shared 0 n.signals)) (All-map (λ (s : List ℕ). IsTrue (is_name s)) name_of n.signals named.names));
   indices = named.indices;
 }

@@ -1,14 +1,28 @@
 -- A net as a component shows it.
-use Rattle.std.specs.Prelude.{ℕ, ◌==◌, List, map, if◌then◌else◌}
+use Rattle.std.specs.Prelude.{ℕ, Bool, ◌==◌, List, map, if◌then◌else◌}
 use Rattle.std.specs.List.{list_any, enumerate_from}
-use Rattle.stg_net.specs.declared.signal.Kind.TheVariants.{Input}
+use Rattle.stg_net.specs.declared.signal.Kind.{Kind}
+use Rattle.stg_net.specs.declared.signal.Kind.TheVariants.{Input, Output, Internal}
 use Rattle.stg_net.specs.declared.signal.Signal.{Signal}
 use Rattle.stg_net.specs.Net.{NetLists}
 
--- an own signal keeps its kind, and every other one is an input
-abbrev pub shown : List ℕ → ℕ × Signal → Signal
-shown own (k, s) = if list_any (λ o. o == k) own then s else record s { kind = Input }
+-- what an own signal becomes that another component knows: an internal one becomes an output
+abbrev pub shared_kind : Kind → Kind
+shared_kind Input = Input
+shared_kind Output = Output
+shared_kind Internal = Output
 
--- the net with all its signals, seen by a component that owns these
-abbrev pub component : List ℕ → NetLists → NetLists
-component own n = record n { signals = map (shown own) (enumerate_from 0 n.signals) }
+-- whether the number is one of these
+abbrev pub is_one_of : List ℕ → ℕ → Bool
+is_one_of numbers k = list_any (λ o. o == k) numbers
+
+-- an own signal keeps its kind, or has that of a shared one; every other one is an input
+abbrev pub kind_shown : List ℕ → List ℕ → ℕ → Kind → Kind
+kind_shown own shared k kind = if is_one_of own k then (if is_one_of shared k then shared_kind kind else kind) else Input
+
+abbrev pub shown : List ℕ → List ℕ → ℕ × Signal → Signal
+shown own shared (k, s) = record s { kind = kind_shown own shared k s.kind }
+
+-- the net with all its signals, seen by a component that owns the first ones, of which others know the second ones
+abbrev pub component : List ℕ → List ℕ → NetLists → NetLists
+component own shared n = record n { signals = map (shown own shared) (enumerate_from 0 n.signals) }

@@ -1,11 +1,11 @@
 //! Nets.
 
-ghost use Rattle.std.specs.Prelude.{◌≡◌, ◌==◌, ℕ, map, IfOk};
-ghost use Rattle.std.specs.List.{list_any, enumerate_from};
+ghost use Rattle.std.specs.Prelude.{◌≡◌, map, IfOk};
+ghost use Rattle.std.specs.List.{enumerate_from};
 ghost use Rattle.stg_net.specs.declared.limits.Limits.{Limits};
 ghost use Rattle.stg_net.specs.Net.{IsNet, IsWithin};
 ghost use Rattle.stg_net.specs.Names.{IsWellNamed};
-ghost use Rattle.stg_net.specs.Component.{shown};
+ghost use Rattle.stg_net.specs.Component.{is_one_of, shared_kind, kind_shown, shown};
 ghost use Rattle.stg_net.specs.Component as lists;
 
 use crate::{Kind, NetArc, NoMemory, Nums, Seq, Signal, TransName};
@@ -81,14 +81,15 @@ impl Net {
         self.arcs.as_slice()
     }
 
-    /// Makes the net that a component sees, where it owns these signals.
-    pub fn component(&self, alloc: Global, own: &[u32]) -> Result<Net, NoMemory>
-        ensures value { IfOk result (λ n. n ≡ lists.component own.now self.now) }
+    /// Makes the net that a component sees, where it owns the first of these signals, and other
+    /// components know the second: an internal signal that it shares with others is an output.
+    pub fn component(&self, alloc: Global, own: &[u32], shared: &[u32]) -> Result<Net, NoMemory>
+        ensures value { IfOk result (λ n. n ≡ lists.component own.now shared.now self.now) }
         ensures within { IfOk result (λ n. (l : Limits) → IsWithin l self.now → IsWithin l n) }
         ensures named { IfOk result (λ n. IsWellNamed self.now → IsWellNamed n) }
     {
         Ok(Net::of(
-            show_signals(alloc, own, self.signals())?,
+            show_signals(alloc, own, shared, self.signals())?,
             Seq::from_slice(alloc, self.trans())?,
             Seq::from_slice(alloc, self.tokens())?,
             Seq::from_slice(alloc, self.arcs())?,
@@ -96,30 +97,47 @@ impl Net {
     }
 }
 
-fn owns(own: &[u32], s: usize) -> bool
-    ensures { result ≡ list_any (λ o. o == s) own.now }
+fn is_among(numbers: &[u32], s: usize) -> bool
+    ensures { result ≡ is_one_of numbers.now s }
 {
-    own.iter().any(|o| *o as usize == s)
+    numbers.iter().any(|k| *k as usize == s)
 }
 
-fn show_signal(alloc: Global, own: &[u32], s: usize, signal: &Signal) -> Result<Signal, NoMemory>
-    ensures { IfOk result (λ n. n ≡ shown own.now (s, signal.now)) }
+// What a kind becomes that other components know.
+fn share(kind: Kind) -> Kind
+    ensures { result ≡ shared_kind kind }
 {
-    let kind = if owns(own, s) {
-        signal.kind
-    } else {
+    match kind {
+        Kind::Input => Kind::Input,
+        Kind::Output | Kind::Internal => Kind::Output,
+    }
+}
+
+fn show_kind(own: &[u32], shared: &[u32], s: usize, kind: Kind) -> Kind
+    ensures { result ≡ kind_shown own.now shared.now s kind }
+{
+    if !is_among(own, s) {
         Kind::Input
-    };
-    let name = Seq::from_slice(alloc, signal.name.as_slice())?;
-    Ok(Signal { name, kind })
+    } else if is_among(shared, s) {
+        share(kind)
+    } else {
+        kind
+    }
 }
 
-fn show_signals(alloc: Global, own: &[u32], signals: &[Signal]) -> Result<Seq<Signal>, NoMemory>
-    ensures { IfOk result (λ n. n ≡ map (shown own.now) (enumerate_from 0 signals.now)) }
+fn show_signals(
+    alloc: Global,
+    own: &[u32],
+    shared: &[u32],
+    signals: &[Signal],
+) -> Result<Seq<Signal>, NoMemory>
+    ensures { IfOk result (λ n. n ≡ map (shown own.now shared.now) (enumerate_from 0 signals.now)) }
 {
     let mut list = Seq::new(alloc);
     for (s, signal) in signals.iter().enumerate() {
-        list.push(show_signal(alloc, own, s, signal)?)?;
+        let name = Seq::from_slice(alloc, signal.name.as_slice())?;
+        let kind = show_kind(own, shared, s, signal.kind);
+        list.push(Signal { name, kind })?;
     }
     Ok(list)
 }

@@ -93,7 +93,7 @@ fn orders_a_net_and_shows_it_to_a_component(rt: HostRuntime) -> Result<(), Fail>
     builder.add_signal(b"x", Kind::Output)?;
     let net = ordered(alloc, &builder.finish()?)?;
     assert_eq!(rt; net.signals().len(), 1);
-    let part = net.component(alloc, &[])?;
+    let part = net.component(alloc, &[], &[])?;
     assert_eq!(rt; part.signals().len(), 1);
     Ok(())
 }

@@ -1,5 +1,8 @@
-use Rattle.desij.proofs.RunLemmas.{completes}
+use Rattle.desij.proofs.RunLemmas.{completes, done_means}
 use Rattle.desij.proofs.run.run.Goals as goal
 
 pub returns-clause-accepted : goal.returns-clause-accepted
 returns-clause-accepted g c = completes _ _ _ _ (rw c.spec_name.ensures at c.perform.ensures.ends)
+
+pub returns-clause-components : goal.returns-clause-components
+returns-clause-components g c is = done_means _ _ _ _ (rw c.spec_name.ensures at c.perform.ensures.ends) is

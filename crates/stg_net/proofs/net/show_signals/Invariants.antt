@@ -5,4 +5,4 @@ use Rattle.stg_net.proofs.net.show_signals.Given as goal
 
 abbrev pub invariant-loop-s : goal.invariant-loop-s
 invariant-loop-s l =
-    l.list ++ map (shown l.own) (enumerate_from l.s (drop l.s l.signals)) ≡ map (shown l.own) (enumerate_from 0 l.signals)
+    l.list ++ map (shown l.own l.shared) (enumerate_from l.s (drop l.s l.signals)) ≡ map (shown l.own l.shared) (enumerate_from 0 l.signals)

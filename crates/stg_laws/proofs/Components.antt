@@ -1,0 +1,186 @@
+-- Nets as components: full names tell their transitions apart, and a net that knows every signal of the specification is faithful to it.
+use Rattle.std.proofs.Common.{◌≡◌, ℕ, zero-add, ◌+◌, ◌<◌, List, [], map, length, get_or, Bool, true, false, cond, Some, IsTrue, refl, sym, ◌∙◌, ap, subst, arith, inl, inr}
+use Rattle.std.specs.List.{range_with_len, list_any, enumerate_from}
+use Rattle.std.specs.Str.{bytes_eq}
+use Rattle.std.proofs.lemmas.Bool.{cases_Bool, false≢true}
+use Rattle.std.proofs.lemmas.List.{length-map, get_or-map as get_or-map_in}
+use Rattle.std.proofs.lemmas.List.FromFn.{length-enumerate_from, get_or-enumerate_from}
+use Rattle.stg_net.specs.declared.signal.Kind.{Kind}
+use Rattle.stg_net.specs.declared.signal.Kind.TheVariants.{Input, Output, Internal}
+use Rattle.stg_net.specs.declared.signal.Signal.{Signal}
+use Rattle.stg_net.specs.declared.trans.TransName.{TransName}
+use Rattle.stg_net.specs.Net.{NetLists, IsNet, signal_at, is_kind}
+use Rattle.stg_net.specs.Graph.{Graph, FullName, IsTrans, IsKnown, full_name_at, is_among, has_signal_of}
+use Rattle.stg_net.specs.Initial.{place_of, full_name, graph_of}
+use Rattle.stg_net.specs.Component.{is_one_of, shared_kind, kind_shown, shown, component}
+use Rattle.stg_net.specs.Ordered.{signal_order, new_number, ordered}
+use Rattle.stg_net.proofs.Orders.{signal_order-IsOrder, length-order, order_below, new_number-below}
+use Rattle.stg_net.proofs.Shown.{length-shown, shown-names, component-IsNet}
+use Rattle.stg_laws.specs.Deterministic.{HasNoDummy}
+use Rattle.stg_laws.specs.Faithful.{IsFaithful}
+use Rattle.stg_laws.specs.Stgs.{Stg, HasDistinctNames, IsStg, stg_of, is_driven, names_where, knows, drives, IsInternal}
+use Rattle.stg_laws.proofs.Cuts.{AllKnown}
+use Rattle.stg_laws.proofs.Declaring.{Declares, declared, found, same_place}
+use Rattle.stg_laws.proofs.Deriving.{derivation_is_faithful}
+use Rattle.stg_laws.proofs.Keeping.{Keeps}
+use Rattle.stg_laws.proofs.Nets.{no_signal, signal_name-at, signal_names, trans_at, full_name_at-net, live_below}
+use Rattle.stg_laws.proofs.Ordering.{order_renumbers, same_signal}
+use Rattle.stg_laws.proofs.Renumbering.{renumbered_keeps, renumbered_no_dummy}
+use Rattle.stg_laws.proofs.Wiring.{is_any, net_knows, net_known, ShowsGroup}
+
+module _ (n : NetLists) (net : IsNet n) where
+  pub net_distinct : HasDistinctNames (graph_of n)
+  net_distinct t u name a b =
+      let first = live_below n t (rw a refl) in
+      let second = live_below n u (rw b refl) in
+      let x = trans_at n.trans t in
+      let y = trans_at n.trans u in
+      let f : Some (full_name n x) ≡ Some name = sym (full_name_at-net n t first) ∙ a in
+      let h : Some (full_name n y) ≡ Some name = sym (full_name_at-net n u second) ∙ b in
+      let same : full_name n x ≡ full_name n y = cc in
+      let signal = same_place (λ (s : Signal). s.name) n.signals net.signal_names no_signal x.signal y.signal (net.trans_signals t (trans_at [] t) first) (net.trans_signals u (trans_at [] u) second) (ap (λ (m : FullName). m.signal) same) in
+      same_place (λ (s : TransName). s) n.trans net.trans_names (trans_at [] t) t u first second (λ i. record { signal = signal i; edge = (same i).edge; index = (same i).index })
+
+  pub net_all_known : AllKnown (graph_of n)
+  net_all_known t live =
+      let below = live_below n t live in
+      let x = trans_at n.trans t in
+      rw (full_name_at-net n t below) (net_knows n (full_name n x).signal x.signal (record { there = net.trans_signals t (trans_at [] t) below; passes = refl; named = refl }))
+
+  pub net_no_dummy : HasNoDummy (graph_of n)
+  net_no_dummy t dummy = false≢true (sym dummy.hidden ∙ net_all_known t dummy.live)
+
+  pub net_is_stg : IsStg (stg_of n)
+  net_is_stg = record {
+    distinct = net_distinct;
+    driven_known = λ s drive. let d = declared is_driven n.signals s drive in net_knows n s d.0 (record { there = d.1.there; passes = refl; named = d.1.named });
+  }
+
+module _ (own shared : List ℕ) (n : NetLists) where
+  -- a component shows each signal under its name
+  shown_name : (s : ℕ) → (signal_at (component own shared n).signals s).name ≡ (signal_at n.signals s).name
+  shown_name s = signal_name-at (component own shared n).signals s ∙ ap (λ names. get_or names s []) (shown-names own shared 0 n.signals) ∙ sym (signal_name-at n.signals s)
+
+  -- kinds aren't read by graphs
+  pub component-graph : graph_of (component own shared n) ≡ graph_of n
+  component-graph = λ i. record {
+    places = map (place_of n) (range_with_len 0 (length n.tokens));
+    trans = map (λ (t : TransName). Some (let x : FullName = record { signal = shown_name t.signal i; edge = t.edge; index = t.index } in x)) n.trans;
+    known = map (λ s. shown_name s i) (range_with_len 0 (length-shown own shared 0 n.signals i));
+    first_places = length n.tokens;
+  }
+
+module _ (n : NetLists) (net : IsNet n) (own shared : List ℕ) where
+  seen_net : IsNet (component own shared n)
+  seen_net = component-IsNet own shared n net
+
+  keeps_seen : Keeps (graph_of n) (graph_of (ordered (component own shared n)))
+  keeps_seen =
+      let h = graph_of (ordered (component own shared n)) in
+      subst (λ g. Keeps g h) (component-graph own shared n) (renumbered_keeps (graph_of (component own shared n)) h (order_renumbers (component own shared n) seen_net))
+
+  seen_no_dummy : HasNoDummy (graph_of (ordered (component own shared n)))
+  seen_no_dummy =
+      renumbered_no_dummy (graph_of (component own shared n)) (graph_of (ordered (component own shared n))) (order_renumbers (component own shared n) seen_net)
+      (net_no_dummy (component own shared n) seen_net)
+
+  -- a component that knows every signal is faithful
+  pub seen_is_faithful : IsFaithful (graph_of n) (stg_of (ordered (component own shared n)))
+  seen_is_faithful = derivation_is_faithful (graph_of n) (graph_of n).known (stg_of (ordered (component own shared n))) (record {
+    distinct = net_distinct n net;
+    known = net_all_known n net;
+    closed = λ t u p own_t takes_t live arc. net_all_known n net u live;
+    keeps = keeps_seen;
+    no_dummy = seen_no_dummy;
+  })
+
+-- a signal in order is declared at its old number, and the other way round
+in_old_order : (n : NetLists) (test : Kind → Bool) (s : List ℕ) (r : ℕ) → Declares (ordered n).signals test s r → (k : ℕ) × Declares n.signals test s k
+in_old_order n test s r d =
+    let order = signal_order n.signals in
+    let is = signal_order-IsOrder n.signals in
+    let there : r < length order = omega (arith, d.there, length-map order (signal_at n.signals)) in
+    let same = get_or-map_in (signal_at n.signals) order r 0 no_signal there in
+    (get_or order r 0, record { there = order_below (length n.signals) order is r 0 there; passes = rw same at d.passes; named = rw same at d.named })
+
+in_new_order : (n : NetLists) (test : Kind → Bool) (s : List ℕ) (k : ℕ) → IsNet n → Declares n.signals test s k → Declares (ordered n).signals test s (new_number (signal_order n.signals) k)
+in_new_order n test s k net d =
+    let order = signal_order n.signals in
+    let same = same_signal n net k d.there in
+    record {
+      there = omega (arith, new_number-below (length n.signals) order (signal_order-IsOrder n.signals) k d.there, length-map order (signal_at n.signals));
+      passes = ap (λ (x : Signal). test x.kind) same ∙ d.passes;
+      named = ap (λ (x : Signal). x.name) same ∙ d.named;
+    }
+
+module _ (own shared : List ℕ) (n : NetLists) where
+  shown_at : (k : ℕ) → k < length n.signals → signal_at (component own shared n).signals k ≡ shown own shared (k, signal_at n.signals k)
+  shown_at k there =
+      get_or-map_in (shown own shared) (enumerate_from 0 n.signals) k (0, no_signal) no_signal (omega (arith, there, length-enumerate_from 0 n.signals))
+      ∙ ap (shown own shared) (get_or-enumerate_from 0 n.signals k (0, no_signal) there)
+      ∙ ap (λ j. shown own shared (j, signal_at n.signals k)) (zero-add k)
+
+  shown_kind : (test : Kind → Bool) (s : List ℕ) (k : ℕ) → Declares (component own shared n).signals test s k → Declares n.signals (λ kind. test (kind_shown own shared k kind)) s k
+  shown_kind test s k d =
+      let there : k < length n.signals = omega (arith, d.there, length-shown own shared 0 n.signals) in
+      record { there = there; passes = ap (λ (x : Signal). test x.kind) (sym (shown_at k there)) ∙ d.passes; named = sym (shown_name own shared n k) ∙ d.named }
+
+  kind_given : (test : Kind → Bool) (s : List ℕ) (k : ℕ) → Declares n.signals (λ kind. test (kind_shown own shared k kind)) s k → Declares (component own shared n).signals test s k
+  kind_given test s k d = record {
+    there = omega (arith, d.there, length-shown own shared 0 n.signals);
+    passes = ap (λ (x : Signal). test x.kind) (shown_at k d.there) ∙ d.passes;
+    named = shown_name own shared n k ∙ d.named;
+  }
+
+-- what passes as driven is own and driven, and what passes as internal is own and not shared
+driven_own : (a b : Bool) (kind : Kind) → is_driven (cond a (cond b (shared_kind kind) kind) Input) ≡ true → (a ≡ true) × (is_driven kind ≡ true)
+driven_own false b kind e = absurd (false≢true e)
+driven_own true false kind e = (refl, e)
+driven_own true true Input e = absurd (false≢true e)
+driven_own true true Output e = (refl, refl)
+driven_own true true Internal e = (refl, refl)
+
+own_driven : (a b : Bool) (kind : Kind) → a ≡ true → is_driven kind ≡ true → is_driven (cond a (cond b (shared_kind kind) kind) Input) ≡ true
+own_driven false b kind e d = absurd (false≢true e)
+own_driven true false kind e d = d
+own_driven true true Input e d = absurd (false≢true d)
+own_driven true true Output e d = refl
+own_driven true true Internal e d = refl
+
+internal_own : (a b : Bool) (kind : Kind) → is_kind Internal (cond a (cond b (shared_kind kind) kind) Input) ≡ true → (a ≡ true) × (b ≡ false)
+internal_own false b kind e = absurd (false≢true e)
+internal_own true false kind e = (refl, refl)
+internal_own true true Input e = absurd (false≢true e)
+internal_own true true Output e = absurd (false≢true e)
+internal_own true true Internal e = absurd (false≢true e)
+
+module _ (n : NetLists) (net : IsNet n) (own known shared : List ℕ) (all : (k : ℕ) → k < length n.signals → is_one_of known k ≡ true) where
+  declared_seen : (test : Kind → Bool) (s : List ℕ) → IsTrue (is_among (names_where test (ordered (component own shared n)).signals) s)
+      → (k : ℕ) × Declares n.signals (λ kind. test (kind_shown own shared k kind)) s k
+  declared_seen test s found_it =
+      let a = declared test (ordered (component own shared n)).signals s found_it in
+      let b = in_old_order (component own shared n) test s a.0 a.1 in
+      (b.0, shown_kind own shared n test s b.0 b.1)
+
+  -- a component that knows every signal shows its group
+  pub seen_shows : ShowsGroup n own known shared (stg_of (ordered (component own shared n)))
+  seen_shows = record {
+    driven = λ s drive.
+        let d = declared_seen is_driven s drive in
+        let o = driven_own (is_one_of own d.0) (is_one_of shared d.0) (signal_at n.signals d.0).kind d.1.passes in
+        (d.0, record { there = d.1.there; passes = o.1; named = d.1.named }, o.0);
+    drives_own = λ s k d mine.
+        let here = own_driven (is_one_of own k) (is_one_of shared k) (signal_at n.signals k).kind mine d.passes in
+        let m = component own shared n in
+        let x = kind_given own shared n is_driven s k (record { there = d.there; passes = here; named = d.named }) in
+        found is_driven (ordered m).signals s (new_number (signal_order m.signals) k) (in_new_order m is_driven s k (component-IsNet own shared n net) x);
+    known_all = λ s knowing.
+        let a = net_known (ordered (component own shared n)) s knowing in
+        let b = in_old_order (component own shared n) is_any s a.0 a.1 in
+        let d = shown_kind own shared n is_any s b.0 b.1 in
+        (b.0, record { there = d.there; passes = refl; named = d.named }, all b.0 d.there);
+    not_shared = λ s internal.
+        let d = declared_seen (is_kind Internal) s internal in
+        let o = internal_own (is_one_of own d.0) (is_one_of shared d.0) (signal_at n.signals d.0).kind d.1.passes in
+        (d.0, record { there = d.1.there; passes = refl; named = d.1.named }, o.0, o.1);
+  }
