@@ -11,3 +11,5 @@ pub mod Ordering
 pub mod Declaring
 pub mod Wiring
 pub mod Components
+pub mod Examples
+pub mod Wrong

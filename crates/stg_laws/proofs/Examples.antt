@@ -1,0 +1,102 @@
+-- The definitions of meaning computed on the C-element's net.
+use Rattle.std.proofs.Common.{◌≡◌, ℕ, ◌+◌, ◌-◌, ◌*◌, zero, suc, List, [], ◌∷◌, Some, None, true, false, refl, sym, ◌∙◌, ap, codes, slice_index, get_or, arith}
+use Rattle.std.proofs.lemmas.Bool.{false≢true}
+use Rattle.stg_net.specs.declared.arc.NetArc.{NetArc}
+use Rattle.stg_net.specs.declared.signal.Kind.TheVariants.{Input, Output}
+use Rattle.stg_net.specs.declared.trans.Edge.{Edge}
+use Rattle.stg_net.specs.declared.trans.Edge.TheVariants.{Rise, Fall, Toggle}
+use Rattle.stg_net.specs.declared.trans.TransName.{TransName}
+use Rattle.stg_net.specs.Graph.{Graph, FullName, full_name_at, is_among}
+use Rattle.stg_net.specs.Initial.{graph_of}
+use Rattle.stg_net.specs.Net.{NetLists}
+use Rattle.stg_laws.specs.Cuts.{Label, label_of, cut, trace}
+use Rattle.stg_laws.specs.Deterministic.{AreRivals, IsClean, HasNoDummy, IsDeterministic}
+use Rattle.stg_laws.specs.Stgs.{stg_of}
+
+abbrev named : ℕ → Edge → TransName
+named s edge = record { signal = s; edge = edge; index = 0 }
+
+abbrev into : ℕ → ℕ → NetArc
+into p t = record { place = p; trans = t; into = true; weight = 1 }
+
+abbrev from : ℕ → ℕ → NetArc
+from p t = record { place = p; trans = t; into = false; weight = 1 }
+
+-- its transitions are a+ c+ b+ a- b- c-
+abbrev celem : NetLists
+celem = record {
+  signals = record { name = codes "a"; kind = Input } ∷ record { name = codes "b"; kind = Input } ∷ record { name = codes "c"; kind = Output } ∷ [];
+  trans = named 0 Rise ∷ named 2 Rise ∷ named 1 Rise ∷ named 0 Fall ∷ named 1 Fall ∷ named 2 Fall ∷ [];
+  tokens = 0 ∷ 0 ∷ 0 ∷ 0 ∷ 0 ∷ 0 ∷ 1 ∷ 1 ∷ [];
+  arcs =
+      into 0 0 ∷ from 0 1
+      ∷ from 1 1 ∷ into 1 2
+      ∷ into 2 1 ∷ from 2 3
+      ∷ into 3 1 ∷ from 3 4
+      ∷ into 4 3 ∷ from 4 5
+      ∷ into 5 4 ∷ from 5 5
+      ∷ from 6 0 ∷ into 6 5
+      ∷ from 7 2 ∷ into 7 5 ∷ [];
+}
+
+abbrev full : List ℕ → Edge → ℕ → FullName
+full signal edge index = record { signal = signal; edge = edge; index = index }
+
+-- b+ isn't seen on a and c
+celem-cut : cut (graph_of celem) (codes "a" ∷ codes "c" ∷ []) (0 ∷ 2 ∷ 1 ∷ 3 ∷ []) ≡ full (codes "a") Rise 0 ∷ full (codes "c") Rise 0 ∷ full (codes "a") Fall 0 ∷ []
+celem-cut = refl
+
+celem-driven : (stg_of celem).driven ≡ codes "c" ∷ []
+celem-driven = refl
+
+celem-known : (stg_of celem).graph.known ≡ codes "a" ∷ codes "b" ∷ codes "c" ∷ []
+celem-known = refl
+
+-- a trace tells no indices
+abbrev twice : NetLists
+twice = record {
+  signals = record { name = codes "a"; kind = Input } ∷ [];
+  trans = named 0 Rise ∷ record { signal = 0; edge = Rise; index = 1 } ∷ [];
+  tokens = [];
+  arcs = [];
+}
+
+twice-trace : trace (graph_of twice) (codes "a" ∷ []) (1 ∷ 0 ∷ []) ≡ record { signal = codes "a"; edge = Rise } ∷ record { signal = codes "a"; edge = Rise } ∷ []
+twice-trace = refl
+
+twice-cut : cut (graph_of twice) (codes "a" ∷ []) (1 ∷ 0 ∷ []) ≡ full (codes "a") Rise 1 ∷ full (codes "a") Rise 0 ∷ []
+twice-cut = refl
+
+-- a graph in which no label stands twice is clean
+clean_by_labels : (g : Graph) (number : Label → ℕ) → ((t : ℕ) (x : FullName) → full_name_at g t ≡ Some x → number (label_of x) ≡ t) → IsClean g
+clean_by_labels g number back run t u runs r et eu = r.differ (sym (back t r.t_name r.t_has) ∙ ap number r.same ∙ back u r.u_name r.u_has)
+
+abbrev edge_number : Edge → ℕ
+edge_number Rise = 0
+edge_number Fall = 1
+edge_number Toggle = 2
+
+abbrev celem_number : Label → ℕ
+celem_number l = slice_index (0 ∷ 3 ∷ 2 ∷ 4 ∷ 1 ∷ 5 ∷ []) (2 * (slice_index l.signal 0 - 97) + edge_number l.edge)
+
+celem_back : (t : ℕ) (x : FullName) → full_name_at (graph_of celem) t ≡ Some x → celem_number (label_of x) ≡ t
+celem_back zero x e = let same : full (codes "a") Rise 0 ≡ x = cc in ap (λ (y : FullName). celem_number (label_of y)) (sym same)
+celem_back (suc zero) x e = let same : full (codes "c") Rise 0 ≡ x = cc in ap (λ (y : FullName). celem_number (label_of y)) (sym same)
+celem_back (suc (suc zero)) x e = let same : full (codes "b") Rise 0 ≡ x = cc in ap (λ (y : FullName). celem_number (label_of y)) (sym same)
+celem_back (suc (suc (suc zero))) x e = let same : full (codes "a") Fall 0 ≡ x = cc in ap (λ (y : FullName). celem_number (label_of y)) (sym same)
+celem_back (suc (suc (suc (suc zero)))) x e = let same : full (codes "b") Fall 0 ≡ x = cc in ap (λ (y : FullName). celem_number (label_of y)) (sym same)
+celem_back (suc (suc (suc (suc (suc zero))))) x e = let same : full (codes "c") Fall 0 ≡ x = cc in ap (λ (y : FullName). celem_number (label_of y)) (sym same)
+celem_back (suc (suc (suc (suc (suc (suc t)))))) x e = cc
+
+celem_shown : HasNoDummy (graph_of celem)
+celem_shown zero d = false≢true (sym d.hidden)
+celem_shown (suc zero) d = false≢true (sym d.hidden)
+celem_shown (suc (suc zero)) d = false≢true (sym d.hidden)
+celem_shown (suc (suc (suc zero))) d = false≢true (sym d.hidden)
+celem_shown (suc (suc (suc (suc zero)))) d = false≢true (sym d.hidden)
+celem_shown (suc (suc (suc (suc (suc zero))))) d = false≢true (sym d.hidden)
+celem_shown (suc (suc (suc (suc (suc (suc t)))))) d = false≢true d.live
+
+-- the C-element is deterministic
+pub celem_is_deterministic : IsDeterministic (graph_of celem)
+celem_is_deterministic = record { clean = clean_by_labels (graph_of celem) celem_number celem_back; no_dummy = celem_shown }
