@@ -31,6 +31,7 @@ whole text found (Some rest) e some none = e ∙ ap (λ (bs : List ℕ). Some (t
 pub reads_whole : (most : ℕ) (name text : List ℕ) (old new : SeenSource) → ReadsUpTo most name text old new → length text < most → ReadsWhole name text old new
 reads_whole most name text old new read short = record {
   told = λ told. whole text (named old.texts name) new.left (read.told told) (read.some_left told) (read.rest short);
+  some_left = read.some_left;
   nothing_left = read.rest short;
 }
 

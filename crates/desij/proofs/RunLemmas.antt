@@ -12,6 +12,7 @@ use Rattle.desij.specs.Answering.{answer_of}
 use Rattle.desij.specs.Files.{part_name, with_parts, HasParts, net_at, with_nets}
 use Rattle.desij.specs.Ends.{Ends}
 use Rattle.desij.specs.Outside.{Files, SeenSource, named}
+use Rattle.desij.specs.Reading.{ReadsUpTo, ReadsWhole, IsMissing}
 use Rattle.desij.specs.Run.{Seen, NoneRose, IsRefused, TellsAccepted, WritesParts, WritesComponents}
 use Rattle.desij.specs.declared.status.Status.{Status}
 use Rattle.desij.specs.declared.status.Status.TheVariants.{Done, BadWords, Refused, ReadFault, WriteFault, PrintFault, NoMemory, ServeFault}
@@ -97,3 +98,30 @@ done_means form WriteFault old new ends is = cc
 done_means form PrintFault old new ends is = cc
 done_means form NoMemory old new ends is = cc
 done_means form ServeFault old new ends is = cc
+
+-- what was read is told where the texts are
+read_there : (most : ℕ) (name text : List ℕ) (old new : SeenSource) → ReadsUpTo most name text old new → IsMissing name old → ⊥
+read_there most name text old new read missing = go new.left (read.some_left missing.told) (sym missing.unnamed ∙ read.told missing.told)
+  where
+    go : (left : Option (List ℕ)) → IsSome left → None ≡ option_map (λ (bs : List ℕ). text ++ bs) left → ⊥
+    go None some e = false≢true some
+    go (Some rest) some e = cc
+
+whole_there : (name text : List ℕ) (old new : SeenSource) → ReadsWhole name text old new → IsMissing name old → ⊥
+whole_there name text old new read missing = let e : None ≡ Some text = sym missing.unnamed ∙ read.told missing.told in cc
+
+-- a run of a text that is missing can't read it
+pub missing_ends : (form : Option (List ℕ)) (s : Status) (old new : Seen) → Ends form s old new → IsSomeAnd form (λ name. IsMissing name old.source)
+    → (s ≡ ReadFault) ⊎ (s ≡ NoMemory)
+missing_ends None s old new ends missing = absurd missing
+missing_ends (Some name) ReadFault old new ends missing = inl refl
+missing_ends (Some name) NoMemory old new ends missing = inr refl
+missing_ends (Some name) Done old new ends missing = absurd (whole_there name ends.source.text old.source new.source ends.source.read missing)
+missing_ends (Some name) BadWords old new ends missing = let e = ends.no_form in cc
+missing_ends (Some name) Refused old new ends missing = absurd (read_there 1048577 name ends.source.text old.source new.source ends.source.read missing)
+missing_ends (Some name) WriteFault old new ends missing = absurd (whole_there name ends.source.text old.source new.source ends.source.read missing)
+missing_ends (Some name) PrintFault old new ends missing = absurd (elim ends [
+  | inl refusal ↦ read_there 1048577 name refusal.source.text old.source new.source refusal.source.read missing
+  | inr lines ↦ whole_there name lines.source.text old.source new.source lines.source.read missing
+])
+missing_ends (Some name) ServeFault old new ends missing = absurd ends

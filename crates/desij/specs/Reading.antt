@@ -5,7 +5,7 @@ use Rattle.desij.specs.Outside.{SeenSource, Rose, named}
 use Rattle.desij.specs.declared.reading.TextError.{TextError}
 use Rattle.desij.specs.declared.reading.TextError.TheVariants as text_error
 
--- This is the text of that name, where texts are told: the whole of it, unless that is longer than most. The rest is left.
+-- This is the text of that name, where texts are told: the whole of it, or its first bytes, so many as may be read, where it has more. The rest is left.
 pub record ReadsUpTo (most : ℕ) (name text : List ℕ) (old new : SeenSource) : Type 0 where
   pub told : IsSome old.texts → named old.texts name ≡ option_map (λ (bs : List ℕ). text ++ bs) new.left
   pub some_left : IsSome old.texts → IsSome new.left
@@ -15,6 +15,7 @@ pub record ReadsUpTo (most : ℕ) (name text : List ℕ) (old new : SeenSource) 
 -- this is the whole text of that name, where texts are told, and nothing of it is left
 pub record ReadsWhole (name text : List ℕ) (old new : SeenSource) : Type 0 where
   pub told : IsSome old.texts → named old.texts name ≡ Some text
+  pub some_left : IsSome old.texts → IsSome new.left
   pub nothing_left : IfSome new.left (λ bs. bs ≡ [])
 
 -- the texts are told, and none has that name
@@ -22,7 +23,7 @@ pub record IsMissing (name : List ℕ) (seen : SeenSource) : Type 0 where
   pub told : IsSome seen.texts
   pub unnamed : named seen.texts name ≡ None
 
--- the count of faults never falls; it rose where the text wasn't read, or the text is missing, or memory ran out
+-- the count of faults never falls; a failure comes only where it rose, and a missing text only where the texts are told and none has that name
 pub record HasTextCause {T : Type 0} (name : List ℕ) (result : Result T TextError) (old new : SeenSource) : Type 0 where
   pub later : old.faults ≤ new.faults
   pub failed : IsErrOf result text_error.Failed → Rose old.faults new.faults

@@ -81,7 +81,7 @@ pub record WritesParts (name : List ℕ) (old new : Seen) : Type 0 where
   pub shelf : PutsAll parts old.shelf new.shelf
   pub sink : Prints (printed parts) old.sink new.sink
 
--- The text stands for a specification. Files with the component texts of some nets were put, and no other file has changed. These nets are components of the specification: each has exactly its traces, and together they are a correct decomposition of it, where it is deterministic.
+-- What WritesParts means, told without parts: the text stands for a specification; the component texts of some nets were put, and no other file has changed; these nets share out what the specification drives, each has exactly its traces on the net's signals, and together they are a correct decomposition of it, where it is deterministic.
 pub record WritesComponents (name : List ℕ) (old new : Seen) : Type 0 where
   pub text : List ℕ
   pub read : ReadsWhole name text old.source new.source

@@ -6,6 +6,7 @@ ghost use Rattle.astg_write.specs.Writable.{IsWritable};
 ghost use Rattle.stg_decomp.specs.declared.part.Part.{Part};
 ghost use Rattle.desij.specs.Ends.{Ends, Finishes, Refuses};
 ghost use Rattle.desij.specs.Run.{seen, files_named, NoneRose, TellsAccepted, TellsRefused, TellsUsage, RefusesText, WritesComponents, WritesParts, CannotPrint, CannotPut, CannotRead, LacksMemory};
+ghost use Rattle.desij.specs.Reading.{IsMissing};
 ghost use Rattle.desij.specs.Words.{spec_word};
 ghost use Rattle.astg_read.specs.declared.rule.Rule.TheVariants.{NotBuilt};
 
@@ -34,6 +35,8 @@ pub fn run<S: Source, F: Shelf, K: Sink>(
     ensures done { result ≡ Status.Done → IsSomeAnd (spec_word words.now) (λ name. WritesParts name
         (seen (S.seen source.old) (F.seen shelf.old) (K.seen sink.old))
         (seen (S.seen source.new) (F.seen shelf.new) (K.seen sink.new))) }
+
+    // What the files mean; it follows from `done`, whose parts have these nets.
     ensures components { result ≡ Status.Done → IsSomeAnd (spec_word words.now) (λ name. WritesComponents name
         (seen (S.seen source.old) (F.seen shelf.old) (K.seen sink.old))
         (seen (S.seen source.new) (F.seen shelf.new) (K.seen sink.new))) }
@@ -64,6 +67,7 @@ pub fn run<S: Source, F: Shelf, K: Sink>(
         (seen (S.seen source.new) (F.seen shelf.new) (K.seen sink.new))
         → TellsRefused (spec_word words.now) (S.seen source.old)
         → (result ≡ Status.Refused) ⊎ (result ≡ Status.NoMemory) }
+    ensures missing { IsSomeAnd (spec_word words.now) (λ name. IsMissing name (S.seen source.old)) → (result ≡ Status.ReadFault) ⊎ (result ≡ Status.NoMemory) }
     ensures accepted { NoneRose
         (seen (S.seen source.old) (F.seen shelf.old) (K.seen sink.old))
         (seen (S.seen source.new) (F.seen shelf.new) (K.seen sink.new))

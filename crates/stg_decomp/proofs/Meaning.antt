@@ -117,10 +117,21 @@ module _ (n : NetLists) (net : IsNet n) where
       let P : Stg → Type 0 = λ x. IsStg x in
       subst P (sym (component_at i there)) (net_is_stg (ordered seen) (ordered-IsNet seen (component-IsNet (own i) (shared many (own i)) n net)))
 
+  are_wired : AreWired (stg_of n) components
+  are_wired = shown_groups_are_wired n net components own (λ i. known) (λ i. shared many (own i)) groups shows_here
+
   are_correct : IsDeterministic (graph_of n) → IsCorrect (stg_of n) components
-  are_correct deterministic =
-      let wired = shown_groups_are_wired n net components own (λ i. known) (λ i. shared many (own i)) groups shows_here in
-      faithful_parts_are_correct (stg_of n) components deterministic wired is_stg is_faithful
+  are_correct deterministic = faithful_parts_are_correct (stg_of n) components deterministic are_wired is_stg is_faithful
+
+  all_nets : All IsNet (nets_of (parts_of n))
+  all_nets =
+      let size = length (driven_signals n.signals) in
+      All-map IsNet (λ (p : Part). p.net) (parts_of n)
+      (All-map (λ (p : Part). IsNet p.net) (part_of n size) (driven_signals n.signals)
+      (λ i d below.
+      let k = get_or (driven_signals n.signals) i d in
+      let seen = component (k ∷ []) (shared size (k ∷ [])) n in
+      ordered-IsNet seen (component-IsNet (k ∷ []) (shared size (k ∷ [])) n net)))
 
   all_faithful : All (λ m. IsFaithful (graph_of n) (stg_of m)) (nets_of (parts_of n))
   all_faithful =
@@ -131,4 +142,4 @@ module _ (n : NetLists) (net : IsNet n) where
 
   pub parts_are_components : AreComponents n (nets_of (parts_of n))
   unfolding components
-  parts_are_components = record { faithful = all_faithful; correct = are_correct }
+  parts_are_components = record { are_nets = all_nets; wired = are_wired; faithful = all_faithful; correct = are_correct }

@@ -16,7 +16,7 @@ is_driven_at signals s = is_driven (signal_at signals s).kind
 abbrev pub driven_signals : List Signal → List ℕ
 driven_signals signals = numbers_where (is_driven_at signals) (length signals)
 
--- which of these own signals another part knows, where there are so many parts and each knows every signal
+-- which of these own signals another part knows: all of them where there is another part, since each part knows every signal
 abbrev pub shared : ℕ → List ℕ → List ℕ
 shared many own = if nat_lt 1 many then own else []
 

@@ -92,7 +92,8 @@ fn make_parts(alloc: Global, net: &Net, driven: &[u32]) -> Result<Seq<Part>, NoM
 
 /// Decomposes a specification: one part for each output and internal signal, in the order of the
 /// signals. Each part knows every signal. An internal signal is an output of its part where another
-/// part knows it.
+/// part knows it. Each part's net has exactly the specification's traces on its signals; together
+/// they are a correct decomposition of it, where it is deterministic.
 pub fn decompose(alloc: Global, spec: &Spec) -> Result<Answer, NoMemory>
     requires { IsWithin Limits.SPEC spec.now.net }
     ensures parts { IfOk result (λ answer. answer.parts ≡ parts_of spec.now.net) }

@@ -1,5 +1,5 @@
 -- Nets as components: full names tell their transitions apart, and a net that knows every signal of the specification is faithful to it.
-use Rattle.std.proofs.Common.{◌≡◌, ℕ, zero-add, ◌+◌, ◌<◌, List, [], map, length, get_or, Bool, true, false, cond, Some, IsTrue, refl, sym, ◌∙◌, ap, subst, arith, inl, inr}
+use Rattle.std.proofs.Common.{◌≡◌, ◌↔◌, ℕ, zero-add, ◌+◌, ◌<◌, List, [], map, length, get_or, Bool, true, false, cond, Some, IsTrue, refl, sym, ◌∙◌, ap, subst, arith, inl, inr}
 use Rattle.std.specs.List.{range_with_len, list_any, enumerate_from}
 use Rattle.std.specs.Str.{bytes_eq}
 use Rattle.std.proofs.lemmas.Bool.{cases_Bool, false≢true}
@@ -18,6 +18,7 @@ use Rattle.stg_net.proofs.Orders.{signal_order-IsOrder, length-order, order_belo
 use Rattle.stg_net.proofs.Shown.{length-shown, shown-names, component-IsNet}
 use Rattle.stg_laws.specs.Deterministic.{HasNoDummy}
 use Rattle.stg_laws.specs.Faithful.{IsFaithful}
+use Rattle.stg_laws.specs.Laws.{DriveTheSame}
 use Rattle.stg_laws.specs.Stgs.{Stg, HasDistinctNames, IsStg, stg_of, is_driven, names_where, knows, drives, IsInternal}
 use Rattle.stg_laws.proofs.Cuts.{AllKnown}
 use Rattle.stg_laws.proofs.Declaring.{Declares, declared, found, same_place}
@@ -112,6 +113,16 @@ in_new_order n test s k net d =
       passes = ap (λ (x : Signal). test x.kind) same ∙ d.passes;
       named = ap (λ (x : Signal). x.name) same ∙ d.named;
     }
+
+-- a net in order declares the same names
+same_declared : (n : NetLists) → IsNet n → (test : Kind → Bool) (s : List ℕ) → IsTrue (is_among (names_where test n.signals) s) ↔ IsTrue (is_among (names_where test (ordered n).signals) s)
+same_declared n net test s = (
+  λ here. let d = declared test n.signals s here in found test (ordered n).signals s (new_number (signal_order n.signals) d.0) (in_new_order n test s d.0 net d.1),
+  λ there. let d = declared test (ordered n).signals s there in let o = in_old_order n test s d.0 d.1 in found test n.signals s o.0 o.1,
+)
+
+pub order_drives_the_same : (n : NetLists) → IsNet n → DriveTheSame (stg_of n) (stg_of (ordered n))
+order_drives_the_same n net = record { driven = same_declared n net is_driven; internals = same_declared n net (is_kind Internal) }
 
 module _ (own shared : List ℕ) (n : NetLists) where
   shown_at : (k : ℕ) → k < length n.signals → signal_at (component own shared n).signals k ≡ shown own shared (k, signal_at n.signals k)

@@ -213,14 +213,16 @@ faithful_parts_are_correct spec components deterministic wired are faithful =
       wired = wired;
       starts = starts_related spec.graph components good;
       inputs_followed = λ m n joint label a mv input. record {
-        seen = λ i h known. steps_to spec.graph components good label m n joint a mv i h known;
-        unseen = λ none. stays_related spec.graph components good label m n joint a mv none;
+        where_known = λ i h known. steps_to spec.graph components good label m n joint a mv i h known;
+        where_unknown = λ none. stays_related spec.graph components good label m n joint a mv none;
       };
       outputs_followed = λ m n joint label a mv drive.
-          let d = wired.driven label.signal drive in
+          let d = wired.all_driven label.signal drive in
           steps_to spec.graph components good label m n joint a mv d.driver d.there ((are d.driver d.there).driven_known label.signal d.drives_it);
       joint_outputs_allowed = λ m joint new label a step drive.
-          let d = wired.driven label.signal drive in
+          let d = wired.all_driven label.signal drive in
           moves_to spec.graph components good label m joint new a step d.driver d.there d.drives_it;
-      outputs_not_refused = λ m n joint label i a h drive mv. can_step spec.graph components good label m n joint i a h drive mv;
+      outputs_not_refused = λ m joint label i t a h drive has enabled.
+          let g = (stg_at components i).graph in
+          can_step spec.graph components good label m (fired g (joint i) t) joint i a h drive (record { trans = t; labelled = has; enabled = enabled; marks = λ p. refl });
     }

@@ -6,9 +6,9 @@ pub mod Keeping
 pub mod Renumbering
 pub mod Deriving
 pub mod Correctness
+pub mod Declaring
 pub mod Nets
 pub mod Ordering
-pub mod Declaring
 pub mod Wiring
 pub mod Components
 pub mod Examples

@@ -1,5 +1,5 @@
 -- A net in order is the same graph with other numbers.
-use Rattle.std.proofs.Common.{◌≡◌, ℕ, zero, suc, ◌+◌, ◌<◌, ◌≤◌, ◌==◌, ◌&&◌, zero-add, add-zero, List, [], ◌∷◌, ◌++◌, map, filter, length, get_or, Bool, true, false, cond, nat_lt, Option, Some, None, slice_index, refl, sym, ◌∙◌, ap, subst, inl, inr, eq-eqb, arith}
+use Rattle.std.proofs.Common.{◌≡◌, ℕ, zero, suc, ◌+◌, ◌<◌, ◌≤◌, ◌==◌, ◌&&◌, zero-add, add-zero, List, [], ◌∷◌, ◌++◌, map, filter, length, get_or, AllPairs, ◌≢◌, Bool, true, false, cond, nat_lt, Option, Some, None, slice_index, refl, sym, ◌∙◌, ap, subst, inl, inr, eq-eqb, arith}
 use Rattle.std.specs.List.{range_with_len, list_any, sum_by}
 use Rattle.std.specs.List.Sorted.{IsPermutation}
 use Rattle.std.specs.Str.{bytes_eq}
@@ -14,10 +14,13 @@ use Rattle.stg_net.specs.Net.{NetLists, IsNet, signal_at}
 use Rattle.stg_net.specs.Graph.{Graph, FullName, IsPlace, IsTrans, is_among, full_name_at, place_at, tokens_in, taken_by, given_by, tokens_at, takes, gives}
 use Rattle.stg_net.specs.Initial.{weight_of, goes, joins, full_name, graph_of}
 use Rattle.stg_net.specs.Ordered.{listed_below, signal_order, place_order, new_number, with_signal_number, with_place_number, arcs_at, arcs_moved, ordered}
+use Rattle.std.proofs.lemmas.List.FromFn.{length-range_with_len, get_or-range_with_len}
+use Rattle.stg_net.proofs.Pairs.{AllPairs-permutation}
+use Rattle.stg_laws.proofs.Declaring.{same_place}
 use Rattle.stg_net.proofs.Orders.{IsOrder, signal_order-IsOrder, place_order-IsOrder, length-order, order_below, new_number-below, get_or-new_number}
 use Rattle.stg_net.proofs.Moved.{signals-moved, length-tokens_moved}
 use Rattle.stg_laws.specs.Renumbered.{IsRenumbered}
-use Rattle.stg_laws.proofs.Nets.{signal_names, no_signal, signal_name-at, graph_of-known, trans_at, full_name_at-net, live_below, place_below, place_at-past, tokens_at-net, takes-net, gives-net}
+use Rattle.stg_laws.proofs.Nets.{signal_names, no_signal, signal_name-at, graph_of-known, trans_at, full_name_at-net, live_below, place_below, place_at-net, place_at-past, tokens_at-net, takes-net, gives-net}
 
 -- the weight of one arc, where it goes this way between t and p
 abbrev one_weight : Bool → ℕ → ℕ → NetArc → ℕ
@@ -85,6 +88,17 @@ weight-listed into t r arcs order (suc m) below =
           omega (arith, both, last, weight-listed into t r arcs order m (omega arith))
     ]
 
+range_apart : (n : ℕ) → AllPairs (λ (j k : ℕ). j ≢ k) (range_with_len 0 n)
+range_apart n i j d less below same =
+    let second : j < n = omega (arith, below, length-range_with_len 0 n) in
+    omega (arith, same, get_or-range_with_len 0 n i d (omega arith), get_or-range_with_len 0 n j d second)
+
+-- each number stands once in an order
+order_apart : (n : ℕ) (order : List ℕ) → IsOrder n order → (d q r : ℕ) → q < length order → r < length order → get_or order q d ≡ get_or order r d → q ≡ r
+order_apart n order is d q r first second same =
+    let apart = AllPairs-permutation (λ (j k : ℕ). j ≢ k) (λ j k differ e. differ (sym e)) (range_with_len 0 n) order is (range_apart n) in
+    same_place (λ (k : ℕ). k) order apart d q r first second same
+
 module _ (n : NetLists) (net : IsNet n) where
   -- the old number of the place that stands at r; the number of places where none does
   old_place : ℕ → ℕ
@@ -101,9 +115,29 @@ module _ (n : NetLists) (net : IsNet n) where
   unfolding old_place
   old_past r past = get_or_past (place_order n) r (length n.tokens) (omega (arith, past, many_places))
 
-  old_there : (p : ℕ) → IsPlace (graph_of n) p → (r : ℕ) × (old_place r ≡ p)
+  -- a place below the number of places is live
+  live_place : (m : NetLists) (p : ℕ) → p < length m.tokens → IsPlace (graph_of m) p
+  live_place m p below = rw (place_at-net m p below) refl
+
+  old_live : (r : ℕ) → IsPlace (graph_of (ordered n)) r → IsPlace (graph_of n) (old_place r)
+  old_live r live = live_place n (old_place r) (old_below r (omega (arith, place_below (ordered n) r live, length-tokens_moved n)))
+
+  old_there : (p : ℕ) → IsPlace (graph_of n) p → (r : ℕ) × IsPlace (graph_of (ordered n)) r × (old_place r ≡ p)
   unfolding old_place
-  old_there p live = (new_number (place_order n) p, get_or-new_number (length n.tokens) (place_order n) (place_order-IsOrder n) p (length n.tokens) (place_below n p live))
+  old_there p live =
+      let below = place_below n p live in
+      let is = place_order-IsOrder n in
+      let new = new_number (place_order n) p in
+      let here : new < length (ordered n).tokens = omega (arith, new_number-below (length n.tokens) (place_order n) is p below, many_places, length-tokens_moved n) in
+      (new, live_place (ordered n) new here, get_or-new_number (length n.tokens) (place_order n) is p (length n.tokens) below)
+
+  -- each number stands once in the order
+  old_differ : (q r : ℕ) → IsPlace (graph_of (ordered n)) q → IsPlace (graph_of (ordered n)) r → old_place q ≡ old_place r → q ≡ r
+  unfolding old_place
+  old_differ q r a b same =
+      let first : q < length (place_order n) = omega (arith, place_below (ordered n) q a, many_places, length-tokens_moved n) in
+      let second : r < length (place_order n) = omega (arith, place_below (ordered n) r b, many_places, length-tokens_moved n) in
+      order_apart (length n.tokens) (place_order n) (place_order-IsOrder n) (length n.tokens) q r first second same
 
   -- a place in order is nothing where the old one is nothing
   past_same : (r : ℕ) → length n.tokens ≤ r → place_at (graph_of (ordered n)) r ≡ place_at (graph_of n) (old_place r)
@@ -184,9 +218,11 @@ module _ (n : NetLists) (net : IsNet n) where
   order_renumbers = record {
     place = old_place;
     trans = λ u. u;
+    place_there = old_live;
     place_from = old_there;
+    place_differ = old_differ;
     trans_from = λ t live. (t, live_there t live, refl);
-    differ = λ u v a b e. e;
+    trans_differ = λ u v a b e. e;
     names = same_names;
     tokens = same_tokens;
     taken = same_takes;

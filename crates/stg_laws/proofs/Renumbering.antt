@@ -35,7 +35,7 @@ enabled_there g h k u m n same e = record {
     | inl there ↦
         let x = k.place_from p there in
         let P : ℕ → Type 0 = λ q. takes g (k.trans u) q ≤ m q in
-        subst P x.1 (omega (arith, e.covered x.0, same x.0, k.taken u x.0 e.live))
+        subst P x.2 (omega (arith, e.covered x.0, same x.0, k.taken u x.0 e.live))
     | inr none ↦ omega (arith, no_place g (k.trans u) p none)
   ];
 }
@@ -79,7 +79,7 @@ rivals_there : (g h : Graph) (k : IsRenumbered g h) (u v : ℕ) → AreRivals h 
 rivals_there g h k u v r =
     let lu = live_from h u r.t_name r.t_has in
     let lv = live_from h v r.u_name r.u_has in record {
-      differ = λ e. r.differ (k.differ u v lu lv e);
+      differ = λ e. r.differ (k.trans_differ u v lu lv e);
       t_known = rw (k.names u lu) (sym (signal_of-agree h.known g.known k.known (full_name_at h u)) ∙ r.t_known);
       u_known = rw (k.names v lv) (sym (signal_of-agree h.known g.known k.known (full_name_at h v)) ∙ r.u_known);
       t_name = r.t_name;
@@ -111,7 +111,7 @@ renumbered_keeps g h k = record {
   distinct = λ distinct u v name a b.
       let lu = live_from h u name a in
       let lv = live_from h v name b in
-      k.differ u v lu lv (distinct (k.trans u) (k.trans v) name (k.names u lu ∙ a) (k.names v lv ∙ b));
+      k.trans_differ u v lu lv (distinct (k.trans u) (k.trans v) name (k.names u lu ∙ a) (k.names v lv ∙ b));
   known = k.known;
 }
 

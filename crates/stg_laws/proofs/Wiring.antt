@@ -64,8 +64,8 @@ module _ (n : NetLists) (net : IsNet n) (components : List Stg) (own known share
   pub shown_groups_are_wired : AreWired (stg_of n) components
   shown_groups_are_wired = record {
     disjoint = one_driver;
-    driven = has_driver;
-    driving = λ i s h drive. let x = (each i h).driven s drive in found is_driven n.signals s x.0 x.1;
+    all_driven = has_driver;
+    only_driven = λ i s h drive. let x = (each i h).driven s drive in found is_driven n.signals s x.0 x.1;
     inputs = λ i s h knowing none. record {
       known = let x = (each i h).known_all s knowing in net_knows n s x.0 x.1;
       not_driven = λ drive. none (has_driver s drive);

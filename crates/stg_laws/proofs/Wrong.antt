@@ -61,11 +61,11 @@ two_drivers c = apart 0 1 (omega arith) (c.wired.disjoint 0 1 x (omega arith) (o
 
 -- an output without a component
 no_driver : IsCorrect spec [] → ⊥
-no_driver c = omega (arith, (c.wired.driven x refl).there)
+no_driver c = omega (arith, (c.wired.all_driven x refl).there)
 
 -- a component that drives an input
 drives_an_input : IsCorrect spec (record spec { driven = a ∷ x ∷ [] } ∷ []) → ⊥
-drives_an_input c = false≢true (c.wired.driving 0 a (omega arith) refl)
+drives_an_input c = false≢true (c.wired.only_driven 0 a (omega arith) refl)
 
 abbrev z : List ℕ
 z = codes "z"
@@ -104,7 +104,7 @@ loses_transitions : IsCorrect spec (no_transitions ∷ []) → ⊥
 loses_transitions c =
     let followed = c.inputs_followed (tokens_at spec.graph) (fired spec.graph (tokens_at spec.graph) 0) (λ i. tokens_at (stg_at (no_transitions ∷ []) i).graph) (rise a) (starts spec.graph (no_transitions ∷ [])) a_first
     (record { known = refl; not_driven = λ d. false≢true d }) in
-    let step = (followed.seen 0 (omega arith) refl).step in
+    let step = (followed.where_known 0 (omega arith) refl).step in
     let moves = step.moves 0 (omega arith) refl in
     nothing_there moves.trans moves.labelled.name moves.labelled.has
 
@@ -164,6 +164,6 @@ refuses_an_output : IsCorrect (only_x (one_place 1 1)) (only_x (one_place 1 1) �
 refuses_an_output c =
     let s = one_place 1 1 in
     let components = only_x s ∷ refuser ∷ [] in
-    let can = c.outputs_not_refused (tokens_at s) (fired s (tokens_at s) 0) (λ i. tokens_at (stg_at components i).graph) (rise x) 0 (starts s components) (omega arith) refl (x_first 1 1 (omega arith)) in
+    let can = c.outputs_not_refused (tokens_at s) (λ i. tokens_at (stg_at components i).graph) (rise x) 0 0 (starts s components) (omega arith) refl (record { name = record { signal = x; edge = Rise; index = 0 }; has = refl; is = refl }) (x_enabled 1 1 (omega arith)) in
     let moves = can.step.moves 1 (omega arith) refl in
     silent moves.trans moves.labelled.name moves.labelled.has

@@ -1,10 +1,10 @@
--- Correct decompositions, after W. Vogler and R. Wollowski, Decomposition in Asynchronous Circuit Design (2002), over full names. Outputs include internal signals.
+-- Correct decompositions, after W. Vogler and R. Wollowski, Decomposition in Asynchronous Circuit Design (2002). The exact form is this project's own: runs are compared by full names. "Output" means output or internal signal.
 use Rattle.std.specs.Prelude.{◌≡◌, ℕ, ◌<◌, List, length}
 use Rattle.stg_net.specs.Graph.{tokens_at}
-use Rattle.stg_net.specs.Run.{Marking}
+use Rattle.stg_net.specs.Run.{Marking, IsEnabled}
 use Rattle.stg_laws.specs.Cuts.{Label}
 use Rattle.stg_laws.specs.Stgs.{Stg, stg_at, knows, drives, IsInternal, IsInput}
-use Rattle.stg_laws.specs.Joint.{JointMarking, Moves, AreRelated, IsJointStep, CanStep, StepsTo, MovesTo}
+use Rattle.stg_laws.specs.Joint.{JointMarking, HasLabel, Moves, AreRelated, IsJointStep, CanStep, StepsTo, MovesTo}
 
 -- a component that drives the signal
 pub record HasDriver (components : List Stg) (signal : List ℕ) : Type 0 where
@@ -13,17 +13,17 @@ pub record HasDriver (components : List Stg) (signal : List ℕ) : Type 0 where
   pub drives_it : drives (stg_at components driver) signal
 
 -- no component knows the signal
-abbrev pub IsUnseen : List Stg → List ℕ → Type 0
-IsUnseen components signal = (i : ℕ) → i < length components → ¬ knows (stg_at components i) signal
+abbrev pub IsKnownToNone : List Stg → List ℕ → Type 0
+IsKnownToNone components signal = (i : ℕ) → i < length components → ¬ knows (stg_at components i) signal
 
 -- which signals the components know and drive
 pub record AreWired (spec : Stg) (components : List Stg) : Type 0 where
   -- no two components drive one signal
   pub disjoint : (i j : ℕ) (s : List ℕ) → i < length components → j < length components → drives (stg_at components i) s → drives (stg_at components j) s → i ≡ j
   -- what the specification drives, a component drives
-  pub driven : (s : List ℕ) → drives spec s → HasDriver components s
+  pub all_driven : (s : List ℕ) → drives spec s → HasDriver components s
   -- what a component drives, the specification drives
-  pub driving : (i : ℕ) (s : List ℕ) → i < length components → drives (stg_at components i) s → drives spec s
+  pub only_driven : (i : ℕ) (s : List ℕ) → i < length components → drives (stg_at components i) s → drives spec s
   -- what a component knows and none drives is an input of the specification
   pub inputs : (i : ℕ) (s : List ℕ) → i < length components → knows (stg_at components i) s → ¬ HasDriver components s → IsInput spec s
   -- an internal signal of a component is known to no other one
@@ -31,8 +31,8 @@ pub record AreWired (spec : Stg) (components : List Stg) : Type 0 where
 
 -- the components do an input's edge after the specification: those that know it by a joint step; where none knows it, all stay
 pub record IsFollowed (spec : Stg) (components : List Stg) (label : Label) (joint : JointMarking) (m : Marking) : Type 0 where
-  pub seen : (i : ℕ) → i < length components → knows (stg_at components i) label.signal → StepsTo spec.graph components label joint m
-  pub unseen : IsUnseen components label.signal → AreRelated spec.graph components m joint
+  pub where_known : (i : ℕ) → i < length components → knows (stg_at components i) label.signal → StepsTo spec.graph components label joint m
+  pub where_unknown : IsKnownToNone components label.signal → AreRelated spec.graph components m joint
 
 -- the components are a correct decomposition of the specification
 pub record IsCorrect (spec : Stg) (components : List Stg) : Type 0 where
@@ -46,4 +46,5 @@ pub record IsCorrect (spec : Stg) (components : List Stg) : Type 0 where
   -- a joint step of an output's edge is allowed by the specification
   pub joint_outputs_allowed : (m : Marking) (joint new : JointMarking) (label : Label) → AreRelated spec.graph components m joint → IsJointStep components label joint new → drives spec label.signal → MovesTo spec.graph components label m new
   -- no component refuses another's output: where its driver can fire an edge, a joint step can
-  pub outputs_not_refused : (m n : Marking) (joint : JointMarking) (label : Label) (i : ℕ) → AreRelated spec.graph components m joint → i < length components → drives (stg_at components i) label.signal → Moves (stg_at components i).graph label (joint i) n → CanStep components label joint
+  pub outputs_not_refused : (m : Marking) (joint : JointMarking) (label : Label) (i t : ℕ) → AreRelated spec.graph components m joint → i < length components → drives (stg_at components i) label.signal
+      → HasLabel (stg_at components i).graph t label → IsEnabled (stg_at components i).graph (joint i) t → CanStep components label joint

@@ -21,7 +21,7 @@ names_of g run = filter_map (full_name_at g) run
 abbrev pub shown : List (List ℕ) → List FullName → List FullName
 shown signals names = filter (λ (name : FullName). is_among signals name.signal) names
 
--- the cut of a run to the signals
+-- the cut of a run to the signals, its projection
 abbrev pub cut : Graph → List (List ℕ) → List ℕ → List FullName
 cut g signals run = shown signals (names_of g run)
 

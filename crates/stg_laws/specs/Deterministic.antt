@@ -1,4 +1,4 @@
--- Clean and deterministic graphs.
+-- Clean and deterministic graphs. The form of determinism is this project's own: it forbids any two enabled transitions of one label, whatever markings they lead to.
 use Rattle.std.specs.Prelude.{◌≡◌, ◌≢◌, ℕ, List, Some}
 use Rattle.stg_net.specs.Graph.{Graph, FullName, full_name_at, IsKnown, IsDummy}
 use Rattle.stg_net.specs.Run.{IsRun, IsEnabled, reached}

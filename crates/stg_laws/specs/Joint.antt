@@ -5,7 +5,7 @@ use Rattle.stg_net.specs.Run.{Marking, IsEnabled, IsRun, fired, reached}
 use Rattle.stg_laws.specs.Cuts.{Label, label_of, names_of, cut}
 use Rattle.stg_laws.specs.Stgs.{Stg, stg_at, knows}
 
--- one marking for each component
+-- one marking for each component, by its number; other numbers don't matter
 abbrev pub JointMarking : Type 0
 JointMarking = ℕ → Marking
 

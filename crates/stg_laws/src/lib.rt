@@ -1,7 +1,7 @@
 //! The laws of runs: what components mean, for all graphs. Nothing here does work at run time.
 #![tactic(auto)]
 
-ghost use Rattle.stg_laws.specs.Laws.{CutTellsInputs, FaithfulPartsAreCorrect, OrderRenumbers};
+ghost use Rattle.stg_laws.specs.Laws.{CutTellsInputs, FaithfulPartsAreCorrect, OrderRenumbers, OrderDrivesTheSame};
 
 /// Components that follow the specification, keep its traces and agree with it on their own
 /// transitions are a correct decomposition of it, where it is deterministic.
@@ -11,7 +11,8 @@ pub fn law_decomposes()
 
 /// A net in order means the same.
 pub fn law_ordered()
-    ensures { OrderRenumbers }
+    ensures graph { OrderRenumbers }
+    ensures signals { OrderDrivesTheSame }
 {}
 
 /// What the input places of a group's transitions hold is a function of the run's cut.

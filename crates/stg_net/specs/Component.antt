@@ -20,9 +20,10 @@ is_one_of numbers k = list_any (λ o. o == k) numbers
 abbrev pub kind_shown : List ℕ → List ℕ → ℕ → Kind → Kind
 kind_shown own shared k kind = if is_one_of own k then (if is_one_of shared k then shared_kind kind else kind) else Input
 
+-- a signal of that number, with the kind that the component shows
 abbrev pub shown : List ℕ → List ℕ → ℕ × Signal → Signal
 shown own shared (k, s) = record s { kind = kind_shown own shared k s.kind }
 
--- the net with all its signals, seen by a component that owns the first ones, of which others know the second ones
+-- the net with all its signals as one component shows it, which owns some of them; other components know those that are shared
 abbrev pub component : List ℕ → List ℕ → NetLists → NetLists
 component own shared n = record n { signals = map (shown own shared) (enumerate_from 0 n.signals) }

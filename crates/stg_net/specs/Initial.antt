@@ -6,7 +6,7 @@ use Rattle.stg_net.specs.declared.arc.NetArc.{NetArc}
 use Rattle.stg_net.specs.Net.{NetLists, signal_at}
 use Rattle.stg_net.specs.Graph.{Graph, Place, FullName}
 
--- whether an arc of the second direction goes the first way, where true is into the place
+-- whether both directions are the same, where true is into the place
 abbrev pub goes : Bool → Bool → Bool
 goes true into = into
 goes false into = not into

@@ -1,4 +1,4 @@
-use Rattle.desij.proofs.RunLemmas.{completes, done_means}
+use Rattle.desij.proofs.RunLemmas.{completes, done_means, missing_ends}
 use Rattle.desij.proofs.run.run.Goals as goal
 
 pub returns-clause-accepted : goal.returns-clause-accepted
@@ -6,3 +6,6 @@ returns-clause-accepted g c = completes _ _ _ _ (rw c.spec_name.ensures at c.per
 
 pub returns-clause-components : goal.returns-clause-components
 returns-clause-components g c is = done_means _ _ _ _ (rw c.spec_name.ensures at c.perform.ensures.ends) is
+
+pub returns-clause-missing : goal.returns-clause-missing
+returns-clause-missing g c missing = missing_ends _ _ _ _ (rw c.spec_name.ensures at c.perform.ensures.ends) missing
