@@ -22,5 +22,5 @@ pub use no_memory::NoMemory;
 pub use order::ordered;
 pub use seq::{Nums, Seq, Text};
 pub use signal::{Kind, Signal};
-pub use spec::{PlaceName, Spec};
+pub use spec::{PlaceName, Spec, place_text};
 pub use trans::{Edge, TransName, trans_text};
