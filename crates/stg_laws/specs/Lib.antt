@@ -1,5 +1,6 @@
 pub mod Cuts
 pub mod Deterministic
+pub mod Conflict
 pub mod Stgs
 pub mod Joint
 pub mod Correct

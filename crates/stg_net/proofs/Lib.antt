@@ -9,3 +9,4 @@ pub mod Orders
 pub mod Moved
 pub mod Givers
 pub mod Shown
+pub mod Weights

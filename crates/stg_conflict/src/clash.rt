@@ -1,0 +1,29 @@
+//! Clashes and their order.
+
+ghost use Rattle.std.specs.Prelude.{◌≡◌};
+ghost use Rattle.stg_conflict.specs.Search.{is_before, lesser};
+
+/// Two transitions of one label, `t1` before `t2`, and a place from which both take.
+#[derive(Clone, Copy, Debug, PartialEq, Eq)]
+pub struct Clash {
+    pub t1: u32,
+    pub t2: u32,
+    pub place: u32,
+}
+
+fn comes_before(c: Clash, d: Clash) -> bool
+    ensures { result ≡ is_before c d }
+{
+    c.t1 < d.t1 || c.t1 == d.t1 && (c.t2 < d.t2 || c.t2 == d.t2 && c.place < d.place)
+}
+
+/// The lesser of two clashes, where there is one.
+pub(crate) fn least_of(one: Option<Clash>, other: Option<Clash>) -> Option<Clash>
+    ensures { result ≡ lesser one other }
+{
+    match (one, other) {
+        (Some(c), Some(d)) => Some(if comes_before(d, c) { d } else { c }),
+        (None, other) => other,
+        (one, None) => one,
+    }
+}

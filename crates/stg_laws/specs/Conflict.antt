@@ -1,0 +1,14 @@
+-- Structural auto-conflicts.
+use Rattle.std.specs.Prelude.{ℕ, ◌<◌}
+use Rattle.stg_net.specs.Graph.{Graph, takes}
+use Rattle.stg_laws.specs.Deterministic.{AreRivals}
+
+-- two different known transitions of one label take from the place p
+pub record IsAutoConflict (g : Graph) (t u p : ℕ) : Type 0 where
+  pub rivals : AreRivals g t u
+  pub t_takes : 0 < takes g t p
+  pub u_takes : 0 < takes g u p
+
+-- no two different known transitions of one label take from one place
+abbrev pub HasNoAutoConflict : Graph → Type 0
+HasNoAutoConflict g = (t u p : ℕ) → ¬ IsAutoConflict g t u p
