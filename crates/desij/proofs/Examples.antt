@@ -1,9 +1,14 @@
 -- The words and the answer of worked texts, computed.
-use Rattle.std.proofs.Common.{◌≡◌, ℕ, List, [], ◌∷◌, ◌++◌, None, Some, refl, codes, map}
+use Rattle.std.proofs.Common.{◌≡◌, ℕ, List, [], ◌∷◌, ◌++◌, Option, None, Some, refl, codes, map}
 use Rattle.std.specs.Fmt.{digits}
 use Rattle.std.specs.Option.{option_map}
 use Rattle.astg_write.specs.ComponentText.{component_text}
-use Rattle.desij.specs.Answering.{answer_of, part_bytes}
+use Rattle.stg_net.specs.Spec.{SpecLists}
+use Rattle.astg_read.specs.Reading.{reading}
+use Rattle.stg_partition.specs.declared.group.Group.{Group}
+use Rattle.stg_decomp.specs.declared.part.Part.{Part}
+use Rattle.stg_decomp.specs.Parts.{parts_of}
+use Rattle.desij.specs.Answering.{part_bytes}
 use Rattle.desij.specs.Files.{part_name}
 use Rattle.desij.specs.Words.{file_of}
 use Rattle.desij.specs.Printing.{printed, count_text, signal_counts, net_sizes, part_line}
@@ -22,13 +27,21 @@ c_element = codes ".model c\n"
     ++ codes ".marking { <c-,a+> <c-,b+> }\n"
     ++ codes ".end\n"
 
+-- its one group
+abbrev groups : List Group
+groups = record { own = 2 ∷ []; known = 0 ∷ 1 ∷ 2 ∷ [] } ∷ []
+
+-- the parts of these groups of the text's specification
+abbrev parts_in : List ℕ → Option (List Part)
+parts_in text = option_map (λ (s : SpecLists). parts_of s.net groups) (reading text)
+
 -- what is printed for the C-element
-c_element-printed : option_map printed (answer_of c_element) ≡ Some (codes "part 1 own 1 inputs 2 transitions 6 places 8 restored 0\n" ++ codes "done 1\n")
-unfolding answer_of digits count_text signal_counts net_sizes part_line
+c_element-printed : option_map printed (parts_in c_element) ≡ Some (codes "part 1 own 1 inputs 2 transitions 6 places 8 restored 0\n" ++ codes "done 1\n")
+unfolding digits count_text signal_counts net_sizes part_line
 c_element-printed = refl
 
 -- the one file of the C-element
-c_element-file : option_map (λ parts. part_bytes parts 0) (answer_of c_element) ≡ Some (
+c_element-file : option_map (λ parts. part_bytes parts 0) (parts_in c_element) ≡ Some (
     codes ".model part1\n"
     ++ codes ".inputs a b\n"
     ++ codes ".outputs c\n"
@@ -49,7 +62,7 @@ c_element-file : option_map (λ parts. part_bytes parts 0) (answer_of c_element)
     ++ codes "p8 b+\n"
     ++ codes ".marking { p7 p8 }\n"
     ++ codes ".end\n")
-unfolding answer_of digits component_text
+unfolding digits component_text
 c_element-file = refl
 
 -- files are numbered from 1
@@ -62,7 +75,6 @@ named_files : map file_of ((codes "decompose" ∷ codes "a.g" ∷ []) ∷ (codes
     ≡ Some (codes "a.g") ∷ None ∷ None ∷ None ∷ None ∷ None ∷ None ∷ []
 named_files = refl
 
--- a text that isn't of the form has no answer
-no_lines : answer_of [] ≡ None
-unfolding answer_of
+-- no bytes stand for no specification
+no_lines : reading [] ≡ None
 no_lines = refl

@@ -8,15 +8,15 @@ use Rattle.std.proofs.lemmas.List.{length-map}
 use Rattle.astg_write.specs.ComponentText.{component_text}
 use Rattle.stg_decomp.specs.declared.part.Part.{Part}
 use Rattle.stg_decomp.specs.Parts.{no_part, part_at, nets_of}
-use Rattle.desij.specs.Answering.{answer_of}
+use Rattle.desij.specs.Answering.{IsAcceptable, IsRefusable}
 use Rattle.desij.specs.Files.{part_name, with_parts, HasParts, net_at, with_nets}
 use Rattle.desij.specs.Ends.{Ends}
 use Rattle.desij.specs.Outside.{Files, SeenSource, named}
 use Rattle.desij.specs.Reading.{ReadsUpTo, ReadsWhole, IsMissing}
-use Rattle.desij.specs.Run.{Seen, NoneRose, IsRefused, TellsAccepted, WritesParts, WritesComponents}
+use Rattle.desij.specs.Run.{Seen, NoneRose, IsRefused, IsAccepted, TellsAccepted, TellsRefused, WritesParts, WritesComponents}
 use Rattle.desij.specs.declared.status.Status.{Status}
 use Rattle.desij.specs.declared.status.Status.TheVariants.{Done, BadWords, Refused, ReadFault, WriteFault, PrintFault, NoMemory, ServeFault}
-use Rattle.desij.proofs.AnswerLemmas.{accepted_is_short}
+use Rattle.desij.proofs.AnswerLemmas.{stands_short, not_both, answered}
 
 -- where a name has a text, the texts are told
 told_by_name : (files : Option Files) (name text : List ℕ) → named files name ≡ Some text → IsSome files
@@ -32,22 +32,31 @@ front_is_whole whole text (Some left) e rest short =
     let none_left : left ≡ [] = rest (omega (arith, ap length same, length-append text left)) in
     rw (same, none_left) (append-nil text)
 
--- a text that is told and accepted isn't refused
-not_refused : (name : List ℕ) (old new : SeenSource) → TellsAccepted (Some name) old → IsRefused name old new → ⊥
-not_refused name old new told refusal = go (named old.texts name) refl told
+-- a text that is told and acceptable isn't refused
+not_refused : (name line : List ℕ) (old new : SeenSource) → TellsAccepted (Some name) old → IsRefused name line old new → ⊥
+not_refused name line old new told refusal = go (named old.texts name) refl told
   where
-    go : (found : Option (List ℕ)) → named old.texts name ≡ found → IsSomeAnd found (λ text. IsSome (answer_of text)) → ⊥
+    go : (found : Option (List ℕ)) → named old.texts name ≡ found → IsSomeAnd found IsAcceptable → ⊥
     go None here accepted = accepted
     go (Some whole) here accepted =
         let front = sym here ∙ refusal.read.told (told_by_name old.texts name whole here) in
-        let same : whole ≡ refusal.text = front_is_whole whole refusal.text new.left front refusal.read.rest (accepted_is_short whole accepted) in
-        let again : IsSome (answer_of refusal.text) = rw same at accepted in
-        let never : false ≡ true = rw refusal.refused at again in
-        absurd (false≢true never)
+        let same : whole ≡ refusal.text = front_is_whole whole refusal.text new.left front refusal.read.rest (stands_short whole accepted.spec accepted.stands) in
+        not_both refusal.text line (subst IsAcceptable same accepted) refusal.refused
+
+-- a text that is told and refusable isn't accepted
+not_accepted : (name : List ℕ) (parts : List Part) (old new : SeenSource) → TellsRefused (Some name) old → IsAccepted name parts old new → ⊥
+not_accepted name parts old new told accepted = go (named old.texts name) refl told
+  where
+    go : (found : Option (List ℕ)) → named old.texts name ≡ found → IsSomeAnd found IsRefusable → ⊥
+    go None here refusable = refusable
+    go (Some whole) here refusable =
+        let read : Some whole ≡ Some accepted.text = sym here ∙ accepted.read.told (told_by_name old.texts name whole here) in
+        let same : accepted.text ≡ whole = cc in
+        not_both whole refusable.line (subst IsAcceptable same (answered accepted.text parts accepted.answer)) refusable.refused
 
 -- a text that is told isn't missing
-not_missing : (name : List ℕ) (old : SeenSource) → TellsAccepted (Some name) old → named old.texts name ≡ None → ⊥
-not_missing name old told none = let P : Option (List ℕ) → Type 0 = λ found. IsSomeAnd found (λ text. IsSome (answer_of text)) in subst P none told
+not_missing : (name : List ℕ) (old : SeenSource) (P : List ℕ → Type 0) → IsSomeAnd (named old.texts name) P → named old.texts name ≡ None → ⊥
+not_missing name old P told none = let Q : Option (List ℕ) → Type 0 = λ found. IsSomeAnd found P in subst Q none told
 
 -- a run of an accepted text without a fault is done, but for want of memory
 pub completes : (form : Option (List ℕ)) (s : Status) (old new : Seen) → Ends form s old new → NoneRose old new → TellsAccepted form old.source
@@ -56,8 +65,8 @@ completes None s old new ends quiet told = absurd told
 completes (Some name) Done old new ends quiet told = inl refl
 completes (Some name) NoMemory old new ends quiet told = inr refl
 completes (Some name) BadWords old new ends quiet told = let e = ends.no_form in cc
-completes (Some name) Refused old new ends quiet told = absurd (not_refused name old.source new.source told ends.source)
-completes (Some name) ReadFault old new ends quiet told = absurd (elim ends.source [ inl rose ↦ quiet.source rose | inr missing ↦ not_missing name old.source told missing.unnamed ])
+completes (Some name) Refused old new ends quiet told = absurd (not_refused name ends.line old.source new.source told ends.source)
+completes (Some name) ReadFault old new ends quiet told = absurd (elim ends.source [ inl rose ↦ quiet.source rose | inr missing ↦ not_missing name old.source IsAcceptable told missing.unnamed ])
 completes (Some name) WriteFault old new ends quiet told = absurd (quiet.shelf ends.shelf.rose)
 completes (Some name) PrintFault old new ends quiet told = absurd (elim ends [ inl refusal ↦ quiet.sink refusal.sink.rose | inr lines ↦ quiet.sink lines.sink.rose ])
 completes (Some name) ServeFault old new ends quiet told = absurd ends
@@ -82,7 +91,7 @@ done_means form Done old new ends is = go form ends
     go : (form : Option (List ℕ)) → IsSomeAnd form (λ name. WritesParts name old new) → IsSomeAnd form (λ name. WritesComponents name old new)
     go None ends = ends
     go (Some name) ends =
-        let meaning = ends.source.meaning in record {
+        let meaning = ends.source.answer in record {
           text = ends.source.text;
           read = ends.source.read;
           spec = meaning.spec;
@@ -125,3 +134,16 @@ missing_ends (Some name) PrintFault old new ends missing = absurd (elim ends [
   | inr lines ↦ whole_there name lines.source.text old.source new.source lines.source.read missing
 ])
 missing_ends (Some name) ServeFault old new ends missing = absurd ends
+
+-- a run of a refusable text without a fault refuses it, but for want of memory
+pub refuses : (form : Option (List ℕ)) (s : Status) (old new : Seen) → Ends form s old new → NoneRose old new → TellsRefused form old.source
+    → (s ≡ Refused) ⊎ (s ≡ NoMemory)
+refuses None s old new ends quiet told = absurd told
+refuses (Some name) Refused old new ends quiet told = inl refl
+refuses (Some name) NoMemory old new ends quiet told = inr refl
+refuses (Some name) Done old new ends quiet told = absurd (not_accepted name ends.parts old.source new.source told ends.source)
+refuses (Some name) BadWords old new ends quiet told = let e = ends.no_form in cc
+refuses (Some name) ReadFault old new ends quiet told = absurd (elim ends.source [ inl rose ↦ quiet.source rose | inr missing ↦ not_missing name old.source IsRefusable told missing.unnamed ])
+refuses (Some name) WriteFault old new ends quiet told = absurd (quiet.shelf ends.shelf.rose)
+refuses (Some name) PrintFault old new ends quiet told = absurd (elim ends [ inl refusal ↦ quiet.sink refusal.sink.rose | inr lines ↦ quiet.sink lines.sink.rose ])
+refuses (Some name) ServeFault old new ends quiet told = absurd ends

@@ -1,33 +1,70 @@
--- The answer to a text.
-use Rattle.std.specs.Prelude.{◌≡◌, ℕ, ◌+◌, List, Option, None, Some, Result, Ok, Err, ⊤}
-use Rattle.std.specs.Option.{option_map}
+-- The answer to a text: its parts, or the line that refuses it.
+use Rattle.std.specs.Prelude.{◌≡◌, ◌⊎◌, ℕ, ◌+◌, List, ◌∷◌, [], ◌++◌, None, Some, codes}
+use Rattle.stg_net.specs.Initial.{graph_of}
 use Rattle.stg_net.specs.Spec.{SpecLists}
+use Rattle.stg_net.specs.Words.{trans_word, place_word_at}
+use Rattle.stg_laws.specs.Conflict.{HasNoAutoConflict}
+use Rattle.stg_laws.specs.Faithful.{AreComponents}
+use Rattle.stg_conflict.specs.declared.clash.Clash.{Clash}
+use Rattle.stg_conflict.specs.Clash.{IsLeastClash}
+use Rattle.astg_read.specs.declared.rule.Rule.{Rule}
 use Rattle.astg_read.specs.declared.rule.Rule.TheVariants.{NotBuilt}
-use Rattle.astg_read.specs.declared.rule.ReadError.{ReadError}
-use Rattle.astg_read.specs.declared.rule.ReadError.TheVariants as read_error
 use Rattle.astg_read.specs.Reading.{reading}
 use Rattle.astg_write.specs.ComponentText.{component_text}
 use Rattle.stg_decomp.specs.declared.part.Part.{Part}
-use Rattle.stg_decomp.specs.declared.part.Answer.{Answer}
-use Rattle.stg_decomp.specs.Parts.{parts_of, part_at, nets_of}
-use Rattle.stg_laws.specs.Faithful.{AreComponents}
+use Rattle.stg_decomp.specs.Parts.{AreParts, part_at, nets_of}
+use Rattle.desij.specs.Printing.{refusal}
 
--- the parts of the specification that a text stands for, where it is accepted
-unfoldable pub answer_of : List ℕ → Option (List Part)
-answer_of text = option_map (λ (s : SpecLists). parts_of s.net) (reading text)
+-- the text stands for the specification
+abbrev pub StandsFor : List ℕ → SpecLists → Type 0
+StandsFor text spec = reading text ≡ Some spec
 
--- The text stands for a specification, of which the parts' nets are components: each is faithful to it, and together they are a correct decomposition of it, where it is deterministic.
-pub record HasMeaning (text : List ℕ) (parts : List Part) : Type 0 where
+-- the text stands for none: its first bad line is this one, and breaks this rule
+abbrev pub IsUnread : List ℕ → Rule → ℕ → Type 0
+IsUnread text rule line = (reading text ≡ None) × (rule ≡ NotBuilt) × (line ≡ 0)
+
+-- The text stands for a specification without structural auto-conflicts, of which these are the parts. Their nets are components of it: each is faithful to it, and together they are a correct decomposition of it, where it is deterministic.
+pub record HasAnswer (text : List ℕ) (parts : List Part) : Type 0 where
   pub spec : SpecLists
-  pub stands : reading text ≡ Some spec
+  pub stands : StandsFor text spec
+  pub no_clash : HasNoAutoConflict (graph_of spec.net)
+  pub made : AreParts spec.net parts
   pub components : AreComponents spec.net (nets_of parts)
+
+-- the line that tells a clash: both transitions and the place
+abbrev pub clash_line : SpecLists → Clash → List ℕ
+clash_line s c = codes "refused Clash " ++ trans_word s.net.signals s.net.trans c.t1 ++ 32 ∷ trans_word s.net.signals s.net.trans c.t2 ++ 32 ∷ place_word_at s c.place ++ 10 ∷ []
+
+-- the reader refuses the text by this line
+pub record IsRefusedByRule (text line : List ℕ) : Type 0 where
+  pub rule : Rule
+  pub number : ℕ
+  pub unread : IsUnread text rule number
+  pub told : line ≡ refusal rule number
+
+-- the text stands for a specification with a structural auto-conflict, and this line tells the least one
+pub record IsRefusedByClash (text line : List ℕ) : Type 0 where
+  pub spec : SpecLists
+  pub stands : StandsFor text spec
+  pub clash : Clash
+  pub least : IsLeastClash (graph_of spec.net) clash
+  pub told : line ≡ clash_line spec clash
+
+-- the text is refused by this line
+abbrev pub IsRefusedBy : List ℕ → List ℕ → Type 0
+IsRefusedBy text line = IsRefusedByRule text line ⊎ IsRefusedByClash text line
+
+-- some line refuses the text
+pub record IsRefusable (text : List ℕ) : Type 0 where
+  pub line : List ℕ
+  pub refused : IsRefusedBy text line
+
+-- the text stands for a specification without structural auto-conflicts
+pub record IsAcceptable (text : List ℕ) : Type 0 where
+  pub spec : SpecLists
+  pub stands : StandsFor text spec
+  pub no_clash : HasNoAutoConflict (graph_of spec.net)
 
 -- the text of the k-th part
 abbrev pub part_bytes : List Part → ℕ → List ℕ
 part_bytes parts k = component_text (part_at parts k).net (k + 1)
-
--- a refusal comes for a text that isn't accepted, with the rule and the line
-abbrev pub Refuses : List ℕ → Result Answer ReadError → Type 0
-Refuses text (Ok a) = ⊤
-Refuses text (Err (read_error.Refused rule line)) = (answer_of text ≡ None) × (rule ≡ NotBuilt) × (line ≡ 0)
-Refuses text (Err read_error.NoMemory) = ⊤

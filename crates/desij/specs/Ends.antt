@@ -1,10 +1,9 @@
 -- How the steps of a run end, by their status.
 use Rattle.std.specs.Prelude.{◌≡◌, ℕ, List, Option, IsSomeAnd}
 use Rattle.desij.specs.Outside.{SeenShelf, SeenSink}
-use Rattle.desij.specs.Printing.{printed, refusal}
+use Rattle.desij.specs.Printing.{printed}
 use Rattle.desij.specs.Run.{Seen, Prints, BreaksOff, PutsAll, PutsFirst, PutsUpTo, TellsUsage, RefusesText, WritesParts, CannotRead, CannotPut, CannotPrint, LacksMemory}
 use Rattle.stg_decomp.specs.declared.part.Part.{Part}
-use Rattle.astg_read.specs.declared.rule.Rule.TheVariants.{NotBuilt}
 use Rattle.desij.specs.declared.status.Status.{Status}
 use Rattle.desij.specs.declared.status.Status.TheVariants.{Done, BadWords, Refused, ReadFault, WriteFault, PrintFault, NoMemory, ServeFault}
 
@@ -19,12 +18,11 @@ Ends form PrintFault old new = CannotPrint form old new
 Ends form NoMemory old new = IsSomeAnd form (λ name. LacksMemory name old new)
 Ends form ServeFault old new = ⊥
 
--- how a refusal ends
-abbrev pub Refuses : Status → SeenSink → SeenSink → Type 0
-Refuses Refused old new = Prints (refusal NotBuilt 0) old new
-Refuses PrintFault old new = BreaksOff (refusal NotBuilt 0) old new
-Refuses NoMemory old new = new ≡ old
-Refuses s old new = ⊥
+-- how the printing of a refusal ends
+abbrev pub EndsRefusal : List ℕ → Status → SeenSink → SeenSink → Type 0
+EndsRefusal line Refused old new = Prints line old new
+EndsRefusal line PrintFault old new = BreaksOff line old new
+EndsRefusal line s old new = ⊥
 
 -- how the putting and printing of these parts ends
 abbrev pub Finishes : List Part → Status → SeenShelf → SeenShelf → SeenSink → SeenSink → Type 0

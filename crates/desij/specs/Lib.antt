@@ -5,6 +5,7 @@ pub mod Memory
 pub mod Words
 pub mod Reading
 pub mod Answering
+pub mod Unmade
 pub mod Files
 pub mod Printing
 pub mod Run

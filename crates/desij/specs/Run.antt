@@ -5,15 +5,13 @@ use Rattle.std.specs.Option.{option_map}
 use Rattle.stg_net.specs.Net.{NetLists}
 use Rattle.stg_net.specs.Spec.{SpecLists}
 use Rattle.stg_laws.specs.Faithful.{AreComponents}
-use Rattle.astg_read.specs.Reading.{reading}
-use Rattle.desij.specs.Answering.{answer_of, HasMeaning}
+use Rattle.desij.specs.Answering.{StandsFor, HasAnswer, IsRefusedBy, IsRefusable, IsAcceptable}
 use Rattle.desij.specs.Files.{FailsAt, HasParts, with_nets}
 use Rattle.desij.specs.Outside.{SeenSource, SeenShelf, SeenSink, Rose, named}
-use Rattle.desij.specs.Printing.{IsFrontPrinted, printed, refusal}
+use Rattle.desij.specs.Printing.{IsFrontPrinted, printed}
 use Rattle.desij.specs.Reading.{IsMissing, ReadsUpTo, ReadsWhole}
 use Rattle.desij.specs.Words.{usage}
 use Rattle.stg_decomp.specs.declared.part.Part.{Part}
-use Rattle.astg_read.specs.declared.rule.Rule.TheVariants.{NotBuilt}
 
 -- all that is seen of the outside
 pub record Seen : Type 0 where
@@ -33,18 +31,17 @@ pub record BreaksOff (bytes : List ℕ) (old new : SeenSink) : Type 0 where
   pub front : IsFrontPrinted bytes old.written new.written
   pub rose : Rose old.faults new.faults
 
--- what was read of the text of that name isn't accepted
-pub record IsRefused (name : List ℕ) (old new : SeenSource) : Type 0 where
+-- what was read of the text of that name is refused by this line
+pub record IsRefused (name line : List ℕ) (old new : SeenSource) : Type 0 where
   pub text : List ℕ
   pub read : ReadsUpTo 1048577 name text old new
-  pub refused : answer_of text ≡ None
+  pub refused : IsRefusedBy text line
 
--- the text of that name was read whole, and stands for these parts, whose nets are components of its specification
+-- the text of that name was read whole, and has these parts
 pub record IsAccepted (name : List ℕ) (parts : List Part) (old new : SeenSource) : Type 0 where
   pub text : List ℕ
   pub read : ReadsWhole name text old new
-  pub accepted : answer_of text ≡ Some parts
-  pub meaning : HasMeaning text parts
+  pub answer : HasAnswer text parts
 
 -- the first k files of these parts are set, and no other file has changed
 pub record PutsFirst (k : ℕ) (parts : List Part) (old new : SeenShelf) : Type 0 where
@@ -68,11 +65,12 @@ pub record TellsUsage (form : Option (List ℕ)) (old new : Seen) : Type 0 where
   pub shelf : new.shelf ≡ old.shelf
   pub sink : Prints usage old.sink new.sink
 
--- the text isn't accepted, the refusal was printed, and no file was put
+-- the text is refused, by a line that was printed, and no file was put
 pub record RefusesText (name : List ℕ) (old new : Seen) : Type 0 where
-  pub source : IsRefused name old.source new.source
+  pub line : List ℕ
+  pub source : IsRefused name line old.source new.source
   pub shelf : new.shelf ≡ old.shelf
-  pub sink : Prints (refusal NotBuilt 0) old.sink new.sink
+  pub sink : Prints line old.sink new.sink
 
 -- the text is accepted, and all files were put and all lines printed
 pub record WritesParts (name : List ℕ) (old new : Seen) : Type 0 where
@@ -86,7 +84,7 @@ pub record WritesComponents (name : List ℕ) (old new : Seen) : Type 0 where
   pub text : List ℕ
   pub read : ReadsWhole name text old.source new.source
   pub spec : SpecLists
-  pub stands : reading text ≡ Some spec
+  pub stands : StandsFor text spec
   pub nets : List NetLists
   pub put : new.shelf.files ≡ option_map (with_nets nets (length nets)) old.shelf.files
   pub components : AreComponents spec.net nets
@@ -107,9 +105,10 @@ pub record CannotPut (name : List ℕ) (old new : Seen) : Type 0 where
 
 -- the printing of the refusal broke off, and no file was put
 pub record CannotRefuse (name : List ℕ) (old new : Seen) : Type 0 where
-  pub source : IsRefused name old.source new.source
+  pub line : List ℕ
+  pub source : IsRefused name line old.source new.source
   pub shelf : new.shelf ≡ old.shelf
-  pub sink : BreaksOff (refusal NotBuilt 0) old.sink new.sink
+  pub sink : BreaksOff line old.sink new.sink
 
 -- all files were put, and the printing of the lines broke off
 pub record CannotTell (name : List ℕ) (old new : Seen) : Type 0 where
@@ -151,13 +150,13 @@ pub record NoneRose (old new : Seen) : Type 0 where
 abbrev pub told_text : Option (List ℕ) → SeenSource → Option (List ℕ)
 told_text form source = option_and_then (named source.texts) form
 
--- the source tells this text, and it isn't accepted
+-- the source tells this text, and it is refused
 abbrev pub TellsRefused : Option (List ℕ) → SeenSource → Type 0
-TellsRefused form source = IsSomeAnd (told_text form source) (λ text. answer_of text ≡ None)
+TellsRefused form source = IsSomeAnd (told_text form source) IsRefusable
 
--- the source tells this text, and it is accepted
+-- the source tells this text, and it stands for a specification without structural auto-conflicts
 abbrev pub TellsAccepted : Option (List ℕ) → SeenSource → Type 0
-TellsAccepted form source = IsSomeAnd (told_text form source) (λ text. IsSome (answer_of text))
+TellsAccepted form source = IsSomeAnd (told_text form source) IsAcceptable
 
 -- how many files the words name
 abbrev pub files_named : Option (List ℕ) → ℕ

@@ -1,8 +1,9 @@
 //! What a run prints, and how it is written to a sink.
 
-ghost use Rattle.std.specs.Prelude.{◌≡◌, ◌+◌, ◌<◌, ◌++◌, IfOk, OnOk, OnErr};
+ghost use Rattle.std.specs.Prelude.{◌≡◌, ◌+◌, ◌<◌, ◌++◌, length, IfOk, OnOk, OnErr};
 ghost use Rattle.std.specs.Io.KnownBytes.{append_known};
 ghost use Rattle.std.specs.String.{string_bytes};
+ghost use Rattle.desij.specs.Answering.{clash_line};
 ghost use Rattle.desij.specs.Outside.{HasCause};
 ghost use Rattle.desij.specs.Printing.{IsFrontPrinted, count_text, net_sizes, part_line, printed, refusal, signal_counts};
 
@@ -10,8 +11,9 @@ use crate::outside::{Failed, Sink};
 use astg_read::Rule;
 use itoa::Buffer;
 use std::alloc::{AllocError, Global};
+use stg_conflict::Clash;
 use stg_decomp::{Answer, Part};
-use stg_net::{Net, NoMemory, Seq, Text};
+use stg_net::{Net, NoMemory, Seq, Spec, Text, place_text, trans_text};
 
 /// A line for each part, and their number.
 pub fn printed_text(alloc: Global, answer: &Answer) -> Result<Text, NoMemory>
@@ -62,12 +64,35 @@ fn push_count(text: &mut Text, word: &[u8], count: usize) -> Result<(), NoMemory
     text.extend_from_slice(Buffer::new().format(count).as_bytes())
 }
 
-/// The line that tells the rule that a text breaks, and where.
 #[tactic(auto, unfolding(crate::specs::Printing::count_text))]
-pub fn refusal_text(alloc: Global, rule: Rule, line: u32) -> Result<String, AllocError>
+fn format_refusal(alloc: Global, rule: Rule, line: u32) -> Result<String, AllocError>
     ensures { IfOk result (λ text. string_bytes text ≡ refusal rule line) }
 {
     format!(in alloc; "refused {rule} line {line}\n")
+}
+
+/// The line that tells the rule that a text breaks, and where.
+pub fn refusal_text(alloc: Global, rule: Rule, line: u32) -> Result<Text, NoMemory>
+    ensures { IfOk result (λ text. text ≡ refusal rule line) }
+{
+    Seq::from_slice(alloc, format_refusal(alloc, rule, line)?.as_bytes())
+}
+
+/// The line that tells a structural auto-conflict: both transitions and the place.
+pub fn clash_text(alloc: Global, spec: &Spec, clash: Clash) -> Result<Text, NoMemory>
+    requires first { clash.t1 < length spec.now.net.trans }
+    requires second { clash.t2 < length spec.now.net.trans }
+    requires place { clash.place < length spec.now.net.tokens }
+    ensures { IfOk result (λ text. text ≡ clash_line spec.now clash) }
+{
+    let mut text = Seq::from_slice(alloc, b"refused Clash ")?;
+    text.extend_from_slice(trans_text(alloc, spec.net(), clash.t1)?.as_slice())?;
+    text.push(b' ')?;
+    text.extend_from_slice(trans_text(alloc, spec.net(), clash.t2)?.as_slice())?;
+    text.push(b' ')?;
+    text.extend_from_slice(place_text(alloc, spec, clash.place)?.as_slice())?;
+    text.push(b'\n')?;
+    Ok(text)
 }
 
 /// Writes all of these bytes.

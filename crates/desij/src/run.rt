@@ -4,20 +4,18 @@ ghost use Rattle.std.specs.Prelude.{◌≡◌, ◌≢◌, ◌⊎◌, ◌≤◌, 
 ghost use Rattle.std.specs.Option.{option_copied};
 ghost use Rattle.astg_write.specs.Writable.{IsWritable};
 ghost use Rattle.stg_decomp.specs.declared.part.Part.{Part};
-ghost use Rattle.desij.specs.Ends.{Ends, Finishes, Refuses};
+ghost use Rattle.desij.specs.Ends.{Ends, EndsRefusal, Finishes};
 ghost use Rattle.desij.specs.Run.{seen, files_named, NoneRose, TellsAccepted, TellsRefused, TellsUsage, RefusesText, WritesComponents, WritesParts, CannotPrint, CannotPut, CannotRead, LacksMemory};
 ghost use Rattle.desij.specs.Reading.{IsMissing};
 ghost use Rattle.desij.specs.Words.{spec_word};
-ghost use Rattle.astg_read.specs.declared.rule.Rule.TheVariants.{NotBuilt};
 
-use crate::answer::make_answer;
+use crate::answer::{Unmade, make_answer};
 use crate::outside::{PutError, Shelf, Sink, Source};
-use crate::printing::{printed_text, refusal_text, write_all};
+use crate::printing::{printed_text, write_all};
 use crate::putting::put_parts;
 use crate::reading::{TextError, read_text};
 use crate::status::Status;
 use crate::words::{USAGE, spec_name};
-use astg_read::{ReadError, Rule};
 use std::alloc::Global;
 use stg_decomp::Answer;
 
@@ -125,8 +123,8 @@ fn decompose<S: Source, F: Shelf, K: Sink>(
     };
     match make_answer(alloc, text.as_slice()) {
         Ok(answer) => finish(alloc, &answer, shelf, sink),
-        Err(ReadError::Refused { rule, line }) => refuse(alloc, rule, line, sink),
-        Err(ReadError::NoMemory) => Status::NoMemory,
+        Err(Unmade::Refused(line)) => refuse(line.as_slice(), sink),
+        Err(Unmade::NoMemory) => Status::NoMemory,
     }
 }
 
@@ -151,15 +149,10 @@ fn finish<F: Shelf, K: Sink>(alloc: Global, answer: &Answer, shelf: &mut F, sink
 }
 
 // Prints the refusal of a text.
-fn refuse<K: Sink>(alloc: Global, rule: Rule, line: u32, sink: &mut K) -> Status
-    requires rule { rule ≡ NotBuilt }
-    requires line { line ≡ 0 }
-    ensures { Refuses result (K.seen sink.old) (K.seen sink.new) }
+fn refuse<K: Sink>(line: &[u8], sink: &mut K) -> Status
+    ensures { EndsRefusal line.now result (K.seen sink.old) (K.seen sink.new) }
 {
-    let Ok(text) = refusal_text(alloc, rule, line) else {
-        return Status::NoMemory;
-    };
-    match write_all(sink, text.as_bytes()) {
+    match write_all(sink, line) {
         Ok(()) => Status::Refused,
         Err(_) => Status::PrintFault,
     }

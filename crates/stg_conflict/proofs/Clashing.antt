@@ -7,7 +7,6 @@ use Rattle.std.proofs.lemmas.Option.{same_Some}
 use Rattle.std.proofs.lemmas.List.Folds.{list_any_at}
 use Rattle.std.proofs.lemmas.List.FromFn.{get_or-map-range_with_len, length-map-range_with_len}
 use Rattle.std.proofs.lemmas.Slice.Eq.{bytes_eq-Decides}
-use Rattle.stg_net.specs.declared.signal.Kind.TheVariants.{Input}
 use Rattle.stg_net.specs.declared.trans.Edge.{Edge}
 use Rattle.stg_net.specs.declared.trans.Edge.TheVariants.{Rise, Fall, Toggle}
 use Rattle.stg_net.specs.declared.trans.TransName.{TransName}
@@ -16,6 +15,7 @@ use Rattle.stg_net.specs.Net.{NetLists, IsNet, signal_at, IsBefore as IsArcBefor
 use Rattle.stg_net.specs.Graph.{Graph, has_signal_of, is_among, IsKnown, takes}
 use Rattle.stg_net.specs.Initial.{joins, full_name, graph_of}
 use Rattle.stg_net.proofs.Weights.{Joint, joins_whole, weight_of-arc, weight_of-joint, takes-graph_of, full_name_at-initial}
+use Rattle.stg_net.proofs.Signals.{one_signal}
 use Rattle.stg_laws.specs.Cuts.{Label, label_of}
 use Rattle.stg_laws.specs.Deterministic.{AreRivals}
 use Rattle.stg_laws.specs.Conflict.{HasNoAutoConflict}
@@ -55,16 +55,6 @@ trans_known n t net there =
     list_any_at (λ k. bytes_eq k (signal_at n.signals s).name) names s [] (omega (arith, low, length-map-range_with_len (λ k. (signal_at n.signals k).name) 0 (length n.signals))) ((bytes_eq-Decides (get_or names s []) (signal_at n.signals s).name).1 at) in
     ap (has_signal_of names) (full_name_at-initial n (range_with_len 0 (length n.signals)) t (record { signal = 0; edge = Rise; index = 0 }) there) ∙ found
 
--- signals of one name are one
-one_signal : (n : NetLists) (s r : ℕ) → IsNet n → s < length n.signals → r < length n.signals → (signal_at n.signals s).name ≡ (signal_at n.signals r).name → s ≡ r
-one_signal n s r net low high same = elim (cases_order s r) [
-  | inl e ↦ e
-  | inr o ↦ elim o [
-    | inl lt ↦ absurd (net.signal_names s r (record { name = []; kind = Input }) lt high same)
-    | inr lt ↦ absurd (net.signal_names r s (record { name = []; kind = Input }) lt low (sym same))
-  ]
-]
-
 takes_some : (n : NetLists) (a : NetArc) (i : ℕ) → IsNet n → i < length n.arcs → get_or n.arcs i a ≡ a → a.into ≡ false → 0 < takes (graph_of n) a.trans a.place
 takes_some n a i net inside a_is out =
     let e = ap (joins false a.trans a.place) a_is ∙ joins_whole false a.trans a.place a (record { trans_is = refl; place_is = refl; goes_is = out }) in
@@ -87,8 +77,8 @@ found_clash n c net f = subst (IsClash (graph_of n)) (sym f.c_is) (clash f.one f
         let outer = and_parts (have_label x y && not a.into) (not b.into) r in
         let inner = and_parts (have_label x y) (not a.into) outer.0 in
         let label = and_parts (x.signal == y.signal) (is_edge x.edge y.edge) inner.0 in
-        let one_signal : x.signal ≡ y.signal = eqb-true x.signal y.signal label.0 in
-        let one_edge : x.edge ≡ y.edge = edge_sound x.edge y.edge label.1 in
+        let same_signal : x.signal ≡ y.signal = eqb-true x.signal y.signal label.0 in
+        let same_edge : x.edge ≡ y.edge = edge_sound x.edge y.edge label.1 in
         let a_out = not_true a.into inner.1 in
         let b_out = not_true b.into outer.1 in
         let before : IsArcBefore a b = subst (λ z. IsArcBefore z b) a_at (subst (IsArcBefore (get_or n.arcs i b)) b_is (net.ordered i j b lt inside)) in
@@ -105,7 +95,7 @@ found_clash n c net f = subst (IsClash (graph_of n)) (sym f.c_is) (clash f.one f
               u_name = full_name n y;
               t_has = full_name_at-initial n (range_with_len 0 (length n.signals)) a.trans (record { signal = 0; edge = Rise; index = 0 }) below;
               u_has = full_name_at-initial n (range_with_len 0 (length n.signals)) b.trans (record { signal = 0; edge = Rise; index = 0 }) there;
-              same = (λ k. record { signal = (signal_at n.signals (one_signal k)).name; edge = one_edge k });
+              same = (λ k. record { signal = (signal_at n.signals (same_signal k)).name; edge = same_edge k });
             };
             t_takes = takes_some n a i net (omega arith) a_is a_out;
             u_takes = subst (λ q. 0 < takes (graph_of n) b.trans q) same (takes_some n b j net inside b_is b_out);

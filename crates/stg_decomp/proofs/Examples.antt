@@ -7,6 +7,7 @@ use Rattle.stg_net.specs.declared.trans.Edge.TheVariants.{Rise, Fall}
 use Rattle.stg_net.specs.declared.trans.TransName.{TransName}
 use Rattle.stg_net.specs.declared.arc.NetArc.{NetArc}
 use Rattle.stg_net.specs.Net.{NetLists}
+use Rattle.stg_partition.specs.declared.group.Group.{Group}
 use Rattle.stg_decomp.specs.Parts.{parts_of}
 
 abbrev input : List ℕ → Signal
@@ -46,8 +47,11 @@ handshakes = record {
 abbrev all : List ℕ
 all = 0 ∷ 1 ∷ 2 ∷ 3 ∷ []
 
+abbrev group : List ℕ → List ℕ → Group
+group own known = record { own = own; known = known }
+
 -- each part shows the other output as an input, which stands before its own output
-handshake_parts : parts_of handshakes ≡
+handshake_parts : parts_of handshakes (group (2 ∷ []) (0 ∷ 2 ∷ []) ∷ group (3 ∷ []) (1 ∷ 3 ∷ []) ∷ []) ≡
     record {
       net = record { signals = input (codes "r1") ∷ input (codes "r2") ∷ input (codes "a2") ∷ output (codes "a1") ∷ []; trans = transitions 0 1 3 2; tokens = tokens; arcs = arcs };
       own = 2 ∷ [];

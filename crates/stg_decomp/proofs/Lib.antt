@@ -1,3 +1,4 @@
 pub mod Numbers
 pub mod Examples
 pub mod Meaning
+pub mod Grouped

@@ -1,10 +1,12 @@
 //! The decomposition of a specification into parts, and the texts of these.
 #![tactic(auto)]
 
+mod error;
 mod part;
 mod parts;
 mod text;
 
+pub use error::DecompError;
 pub use part::{Answer, Part};
 pub use parts::decompose;
 pub use text::part_text;

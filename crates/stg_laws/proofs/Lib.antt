@@ -9,6 +9,7 @@ pub mod Correctness
 pub mod Declaring
 pub mod Nets
 pub mod Ordering
+pub mod Consistency
 pub mod Wiring
 pub mod Components
 pub mod Examples

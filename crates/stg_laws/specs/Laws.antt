@@ -7,7 +7,9 @@ use Rattle.stg_net.specs.Run.{IsRun, reached}
 use Rattle.stg_net.specs.Ordered.{ordered}
 use Rattle.stg_laws.specs.Closed.{IsClosed}
 use Rattle.stg_laws.specs.Cuts.{cut}
-use Rattle.stg_laws.specs.Deterministic.{IsDeterministic}
+use Rattle.stg_laws.specs.Deterministic.{HasNoDummy, IsDeterministic}
+use Rattle.stg_laws.specs.Conflict.{HasNoAutoConflict}
+use Rattle.stg_laws.specs.Consistent.{HasNoToggle, IsConsistent}
 use Rattle.stg_laws.specs.Stgs.{Stg, HasDistinctNames, IsStg, stg_of, stg_at, drives, IsInternal}
 use Rattle.stg_laws.specs.Correct.{AreWired, IsCorrect}
 use Rattle.stg_laws.specs.Faithful.{IsFaithful}
@@ -35,3 +37,7 @@ OrderDrivesTheSame = (n : NetLists) → IsNet n → DriveTheSame (stg_of n) (stg
 abbrev pub CutTellsInputs : Type 0
 CutTellsInputs = (g : Graph) (own signals : List (List ℕ)) (t p : ℕ) (v w : List ℕ) → HasDistinctNames g → IsClosed g own signals → IsTrue (has_signal_of own (full_name_at g t)) → 0 < takes g t p
     → IsRun g v → IsRun g w → cut g signals v ≡ cut g signals w → reached g v p ≡ reached g w p
+
+-- a graph without dummies, toggles and structural auto-conflicts, in each of whose runs the edges of each signal alternate, is deterministic
+abbrev pub ConsistencyDetermines : Type 0
+ConsistencyDetermines = (g : Graph) → HasNoDummy g → HasNoToggle g → HasNoAutoConflict g → IsConsistent g → IsDeterministic g

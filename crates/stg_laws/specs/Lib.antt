@@ -1,10 +1,12 @@
 pub mod Cuts
 pub mod Deterministic
 pub mod Conflict
+pub mod Consistent
 pub mod Stgs
 pub mod Joint
 pub mod Correct
 pub mod Closed
+pub mod Groups
 pub mod Faithful
 pub mod Renumbered
 pub mod Laws

@@ -10,3 +10,4 @@ pub mod Moved
 pub mod Givers
 pub mod Shown
 pub mod Weights
+pub mod Signals

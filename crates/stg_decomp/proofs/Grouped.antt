@@ -1,0 +1,93 @@
+-- The plain groups share out the signals that a specification drives.
+use Rattle.std.proofs.Common.{◌≡◌, ◌≢◌, ◌==◌, ◌||◌, ℕ, zero, suc, ◌+◌, ◌<◌, ◌≤◌, List, [], ◌∷◌, length, get_or, All, Any, AllPairs, Contains, slice_index, Bool, true, false, nat_lt, cond, refl, sym, ◌∙◌, ap, subst, inl, inr, arith, eq-eqb}
+use Rattle.std.specs.List.{range_with_len, list_any}
+use Rattle.std.specs.List.Sorted.{IsStrictlyIncreasing}
+use Rattle.std.proofs.lemmas.Bool.{cases_order, lt-ltb, eqb-true}
+use Rattle.std.proofs.lemmas.List.{get_or_default}
+use Rattle.std.proofs.lemmas.List.Folds.{list_any_at, Any-from_list_any}
+use Rattle.std.proofs.lemmas.List.Kept.{AllPairs-from_increasing}
+use Rattle.stg_net.specs.Component.{is_one_of}
+use Rattle.stg_net.specs.Net.{NetLists}
+use Rattle.stg_laws.specs.Groups.{least_own, IsPlainGroup, AreJoined}
+use Rattle.stg_laws.specs.Stgs.{is_driven}
+use Rattle.stg_laws.proofs.Declaring.{Declares}
+use Rattle.stg_partition.specs.declared.group.Group.{Group}
+use Rattle.stg_partition.specs.PlainGroups.{ArePlainGroups}
+use Rattle.stg_partition.proofs.Conflicts.{joined_on, joined_back, driven_there}
+
+-- a test finds what a list contains
+pub one_of-contained : (xs : List ℕ) (k : ℕ) → Contains xs k → is_one_of xs k ≡ true
+one_of-contained xs k c = list_any_at (λ o. o == k) xs c.0 k c.1 (eq-eqb (get_or xs c.0 k) k c.2)
+
+-- and nothing else
+pub contained-one_of : (xs : List ℕ) (k : ℕ) → is_one_of xs k ≡ true → Contains xs k
+contained-one_of xs k is =
+    let a = Any-from_list_any (λ o. o == k) xs is in
+    (a.0, a.2, get_or_default xs a.0 k a.1 a.2 ∙ a.3 ∙ eqb-true a.1 k a.4)
+
+-- the first of ascending numbers is the least
+first_least : (xs : List ℕ) (k : ℕ) → IsStrictlyIncreasing xs → Contains xs k → slice_index xs 0 ≤ k
+first_least xs k increases c =
+    let apart = AllPairs-from_increasing xs increases in
+    let here : get_or xs c.0 0 ≡ k = get_or_default xs c.0 0 k c.1 ∙ c.2 in
+    elim (cases_order 0 c.0) [
+      | inl first ↦ omega (arith, ap (λ i. get_or xs i 0) first, here)
+      | inr rest ↦ elim rest [
+        | inl later ↦ omega (arith, apart 0 c.0 0 later c.1, here)
+        | inr never ↦ absurd (omega arith)
+      ]
+    ]
+
+abbrev pub no_group : Group
+no_group = record { own = []; known = [] }
+
+-- the own signals of the i-th group
+abbrev pub own_at : List Group → ℕ → List ℕ
+own_at groups i = (get_or groups i no_group).own
+
+module _ (n : NetLists) (groups : List Group) (plain : ArePlainGroups n groups) where
+  -- the least of one group stands in each group that shares a signal with it
+  least_le : (i j k : ℕ) → i < length groups → j < length groups → Contains (own_at groups i) k → Contains (own_at groups j) k → least_own (own_at groups i) ≤ least_own (own_at groups j)
+  least_le i j k hi hj a b =
+      let g = plain.plain i no_group hi in
+      let h = plain.plain j no_group hj in
+      let x = least_own (own_at groups i) in
+      let y = least_own (own_at groups j) in
+      let joined : AreJoined n x y = joined_on n x k y ((g.joined k).0 a) (joined_back n y k ((h.joined k).0 b)) in
+      first_least (own_at groups i) y g.ascends ((g.joined y).1 joined)
+
+  pub one_group : (i j k : ℕ) → i < length groups → j < length groups → is_one_of (own_at groups i) k ≡ true → is_one_of (own_at groups j) k ≡ true → i ≡ j
+  one_group i j k hi hj a b =
+      let c = contained-one_of (own_at groups i) k a in
+      let d = contained-one_of (own_at groups j) k b in
+      let below = least_le i j k hi hj c d in
+      let above = least_le j i k hj hi d c in
+      elim (cases_order i j) [
+        | inl same ↦ same
+        | inr rest ↦ elim rest [
+          | inl lower ↦ absurd (omega (arith, plain.ordered i j no_group lower hj, below, above))
+          | inr higher ↦ absurd (omega (arith, plain.ordered j i no_group higher hi, below, above))
+        ]
+      ]
+
+  pub some_group : (s : List ℕ) (k : ℕ) → Declares n.signals is_driven s k → (i : ℕ) × (i < length groups) × (is_one_of (own_at groups i) k ≡ true)
+  some_group s k d =
+      let a = plain.whole k d.passes in
+      let same : get_or groups a.0 no_group ≡ a.1 = get_or_default groups a.0 no_group a.1 a.2 ∙ a.3 in
+      let P : Group → Type 0 = λ g. Contains g.own k in
+      (a.0, a.2, one_of-contained (own_at groups a.0) k (subst P (sym same) a.4))
+
+  -- the i-th group begins at i or later
+  begins_late : (i : ℕ) → i < length groups → i ≤ least_own (own_at groups i)
+  begins_late zero below = omega arith
+  begins_late (suc i) below = omega (arith, begins_late i (omega arith), plain.ordered i (suc i) no_group (omega arith) below)
+
+  -- so there are no more groups than signals
+  pub few_groups : length groups ≤ length n.signals
+  few_groups = go (length groups) refl
+    where
+      go : (size : ℕ) → length groups ≡ size → size ≤ length n.signals
+      go zero e = omega arith
+      go (suc size) e =
+          let below : size < length groups = omega (arith, e) in
+          omega (arith, begins_late size below, driven_there n (least_own (own_at groups size)) (plain.plain size no_group below).driven)

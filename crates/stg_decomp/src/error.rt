@@ -1,0 +1,23 @@
+//! Why a specification has no parts.
+
+ghost use Rattle.std.specs.Prelude.{◌≡◌};
+
+use stg_conflict::Clash;
+use stg_net::NoMemory;
+
+/// Why a specification isn't decomposed: it has a structural auto-conflict, or memory ran out.
+#[derive(Clone, Copy, Debug, PartialEq, Eq)]
+pub enum DecompError {
+    Clash(Clash),
+    NoMemory,
+}
+
+impl From<NoMemory> for DecompError {
+    ghost use Rattle.stg_decomp.specs.declared.error.DecompError.TheVariants as decomp_error;
+
+    ghost from_gives = { λ _ e. e ≡ decomp_error.NoMemory };
+
+    fn from(_: NoMemory) -> Self {
+        DecompError::NoMemory
+    }
+}

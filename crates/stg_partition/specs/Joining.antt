@@ -1,0 +1,77 @@
+-- What a pass over the arcs of a net does: each signal has a leader, and each place a signal that takes from it.
+use Rattle.std.specs.Prelude.{◌≡◌, ◌<◌, ◌≤◌, ⊤, All, IfSome, IsTrue, length, ℕ, ◌+◌, ◌*◌, min, max, Bool, false, not, ◌&&◌, ◌||◌, ◌==◌, List, Option, Some, None, slice_index, slice_index_or, slice_set, if◌then◌else◌}
+use Rattle.stg_net.specs.declared.arc.NetArc.{NetArc}
+use Rattle.stg_net.specs.Net.{NetLists}
+use Rattle.stg_net.specs.Ordered.{numbers_with, numbers_where}
+use Rattle.stg_laws.specs.Groups.{signal_of, is_driven_at, takes_from, AreJoined}
+use Rattle.stg_partition.specs.declared.group.Group.{Group}
+
+-- the signal of the arc's transition, where it is an output or internal and the arc leads to it
+abbrev pub own_taker : NetLists → NetArc → Option ℕ
+own_taker n a = if not a.into && is_driven_at n.signals (signal_of n a) then Some (signal_of n a) else None
+
+abbrev pub relabelled : ℕ → ℕ → ℕ → ℕ
+relabelled from to leader = if leader == from then to else leader
+
+-- the leader in place of an old one, after two signals are joined
+abbrev pub joined : List ℕ → ℕ → ℕ → ℕ → ℕ
+joined leaders x y leader = relabelled (max (slice_index leaders x) (slice_index leaders y)) (min (slice_index leaders x) (slice_index leaders y)) leader
+
+abbrev pub taker_at : List (Option ℕ) → ℕ → Option ℕ
+taker_at takers p = slice_index_or takers p None
+
+abbrev pub with_first : Option ℕ → ℕ → ℕ → List (Option ℕ) → List (Option ℕ)
+with_first None s p takers = slice_set takers p (Some s)
+with_first (Some t) s p takers = takers
+
+-- the takers after an arc at p with this own taker
+abbrev pub with_taker : Option ℕ → ℕ → List (Option ℕ) → List (Option ℕ)
+with_taker None p takers = takers
+with_taker (Some s) p takers = with_first (taker_at takers p) s p takers
+
+-- the leader in place of an old one, after an arc with this own taker at a place with that taker
+abbrev pub new_leader : Option ℕ → Option ℕ → List ℕ → ℕ → ℕ
+new_leader (Some s) (Some t) leaders leader = joined leaders t s leader
+new_leader (Some s) None leaders leader = leader
+new_leader None taker leaders leader = leader
+
+-- the own taker has the leader of the taker of its place
+abbrev pub IsLedWith : List ℕ → Option ℕ → Option ℕ → Type 0
+IsLedWith leaders None taker = ⊤
+IsLedWith leaders (Some s) None = ⊥
+IsLedWith leaders (Some s) (Some t) = slice_index leaders s ≡ slice_index leaders t
+
+-- signals of one leader are joined, and a leader is the least of those that it leads
+pub record IsLed (n : NetLists) (leaders : List ℕ) : Type 0 where
+  pub long : length leaders ≡ length n.signals
+  pub joined : (x y : ℕ) → x < length leaders → y < length leaders → slice_index leaders x ≡ slice_index leaders y → AreJoined n x y
+  pub low : (x : ℕ) → x < length leaders → slice_index leaders x ≤ x
+  pub fixed : (x : ℕ) → x < length leaders → slice_index leaders (slice_index leaders x) ≡ slice_index leaders x
+
+-- each place has one of its own takers, and the first k arcs are led with the takers of their places
+pub record IsJoining (n : NetLists) (k : ℕ) (leaders : List ℕ) (takers : List (Option ℕ)) : Type 0 where
+  pub led : IsLed n leaders
+  pub wide : length takers ≡ length n.tokens
+  pub below : All (λ taker. IfSome taker (λ s. s < length leaders)) takers
+  pub own : (p s : ℕ) → taker_at takers p ≡ Some s → IsTrue (is_driven_at n.signals s) × IsTrue (takes_from n s p)
+  pub arcs : (i : ℕ) (d : NetArc) → i < k → IsLedWith leaders (own_taker n (slice_index_or n.arcs i d)) (taker_at takers (slice_index_or n.arcs i d).place)
+
+-- whether the taker's leader is this one
+abbrev pub is_led : List ℕ → ℕ → Option ℕ → Bool
+is_led leaders leader None = false
+is_led leaders leader (Some s) = slice_index leaders s == leader
+
+-- whether the arc shows the signal to the group of the leader
+abbrev pub shows : NetLists → List ℕ → List (Option ℕ) → ℕ → ℕ → NetArc → Bool
+shows n leaders takers leader s a = is_led leaders leader (taker_at takers a.place) && (signal_of n a == s)
+
+-- the group of the leader, which sees what the marks tell
+abbrev pub group_of : ℕ → List ℕ → List Bool → ℕ → Group
+group_of size leaders marks leader = record {
+  own = numbers_with (slice_index leaders) size leader;
+  known = numbers_where (λ s. (slice_index leaders s == leader) || slice_index_or marks (leader * size + s) false) size;
+}
+
+-- whether the signal is an output or internal and its own leader
+abbrev pub is_leader : NetLists → List ℕ → ℕ → Bool
+is_leader n leaders s = is_driven_at n.signals s && (slice_index leaders s == s)

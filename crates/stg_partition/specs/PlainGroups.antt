@@ -1,0 +1,18 @@
+-- The plain groups of a net.
+use Rattle.std.specs.Prelude.{◌≡◌, ℕ, ◌<◌, List, All, Any, AllPairs, Contains, IsTrue}
+use Rattle.stg_net.specs.Net.{NetLists}
+use Rattle.stg_net.specs.Initial.{graph_of}
+use Rattle.stg_laws.specs.Closed.{IsClosed}
+use Rattle.stg_laws.specs.Groups.{is_driven_at, least_own, IsPlainGroup, known_to, names_at}
+use Rattle.stg_partition.specs.declared.group.Group.{Group}
+
+-- each output and internal signal stands in a plain group, the groups stand in the order of their least signals, and each knows what it has to
+pub record ArePlainGroups (n : NetLists) (groups : List Group) : Type 0 where
+  pub plain : All (λ (group : Group). IsPlainGroup n group.own) groups
+  pub whole : (s : ℕ) → IsTrue (is_driven_at n.signals s) → Any (λ (group : Group). Contains group.own s) groups
+  pub ordered : AllPairs (λ (g h : Group). least_own g.own < least_own h.own) groups
+  pub known : All (λ (group : Group). group.known ≡ known_to n group.own) groups
+
+-- each group knows the signals of all arcs at the places from which its own transitions take
+abbrev pub AreClosed : NetLists → List Group → Type 0
+AreClosed n groups = All (λ (group : Group). IsClosed (graph_of n) (names_at n group.own) (names_at n group.known)) groups
