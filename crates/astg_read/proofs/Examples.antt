@@ -1,204 +1,367 @@
 -- Worked examples of the definition.
-use Rattle.std.specs.Prelude.{◌≡◌, ℕ, List, [], ◌∷◌, ◌++◌, length, codes, Option, None, Some, refl, sum, option_map}
-use Rattle.stg_net.specs.declared.signal.Kind.TheVariants.{Input, Output}
-use Rattle.stg_net.specs.declared.trans.Edge.TheVariants.{Rise, Fall}
-use Rattle.stg_net.specs.declared.spec.PlaceName.TheVariants.{Between}
-use Rattle.stg_net.specs.Spec.{SpecLists}
-use Rattle.astg_read.specs.Links.{into_place, out_of_place}
-use Rattle.astg_read.specs.Reading.{reading}
+use Rattle.std.specs.Prelude.{◌≡◌, ℕ, List, [], ◌∷◌, ◌++◌, codes, Some, None, Option, refl, ⊤}
+use Rattle.stg_net.specs.declared.limits.Limits.{Limits}
+use Rattle.astg_read.specs.declared.rule.Rule.{Rule}
+use Rattle.astg_read.specs.declared.rule.Rule.TheVariants as rules
+use Rattle.std.specs.Prelude.{false, Result, Ok, Err}
+use Rattle.astg_read.specs.Reading.{Fault, Meaning, reading}
+use Rattle.astg_lex.specs.Lines.{lines_of}
+use Rattle.astg_lex.specs.Words.{words_of}
 
--- the numbers of signals, transitions, places, arcs and tokens
-abbrev sizes : Option SpecLists → Option (List ℕ)
-sizes = option_map (λ (s : SpecLists). length s.net.signals ∷ length s.net.trans ∷ length s.net.tokens ∷ length s.net.arcs ∷ sum s.net.tokens ∷ length s.place_names ∷ [])
+abbrev spec : Limits
+spec = record { bytes = 1048576; signals = 250; trans = 1000; places = 2000; arcs = 20000; weight = 1000 }
 
-celem : sizes (reading (codes ".model c\n.inputs a b\n.outputs c\n.graph\na+ c+\nb+ c+\nc+ a- b-\na- c-\nb- c-\nc- a+ b+\n.marking { <c-,a+> <c-,b+> }\n.end\n")) ≡ Some (3 ∷ 6 ∷ 8 ∷ 16 ∷ 2 ∷ 8 ∷ [])
-celem = refl
+abbrev is_fault : Rule → ℕ → Result Meaning Fault → Type 0
+is_fault rule line r = r ≡ Err (record { rule = rule; line = line })
 
-vme : sizes (reading (codes ".model vme\n.inputs dsr ldtack\n.outputs lds d dtack\n.graph\ndsr+ lds+\nlds+ ldtack+\nldtack+ d+\nd+ dtack+\ndtack+ dsr-\ndsr- d-\nd- dtack- lds-\ndtack- dsr+\nlds- ldtack-\nldtack- lds+\n.marking { <dtack-,dsr+> <ldtack-,lds+> }\n.end\n")) ≡ Some (5 ∷ 10 ∷ 11 ∷ 22 ∷ 2 ∷ 11 ∷ [])
-vme = refl
+abbrev is_good : Result Meaning Fault → Type 0
+is_good (Ok m) = ⊤
+is_good (Err f) = ⊥
 
-two : sizes (reading (codes ".inputs r1 r2\n.outputs a1 a2\n.graph\nr1+ a1+\na1+ r1-\nr1- a1-\na1- r1+\nr2+ a2+\na2+ r2-\nr2- a2-\na2- r2+\n.marking { <a1-,r1+> <a2-,r2+> }\n.end\n")) ≡ Some (4 ∷ 8 ∷ 8 ∷ 16 ∷ 2 ∷ 8 ∷ [])
-two = refl
+base : is_good (reading false spec (codes ".inputs a\n.outputs x\n.graph\na+ x+\n.marking { }\n.end\n"))
+base = tt
 
-smallest : sizes (reading (codes ".graph\n.end")) ≡ Some (0 ∷ 0 ∷ 0 ∷ 0 ∷ 0 ∷ 0 ∷ [])
-smallest = refl
+bad_byte : is_fault rules.BadByte 4 (reading false spec (codes ".inputs a\n.outputs x\n.graph\na+ x+" ++ (1 ∷ []) ++ codes "\n.marking { }\n.end\n"))
+bad_byte = refl
 
-blanks : sizes (reading (codes "  .graph \n.marking  {  }\n.end  \n")) ≡ Some (0 ∷ 0 ∷ 0 ∷ 0 ∷ 0 ∷ 0 ∷ [])
-blanks = refl
+capacity : is_fault rules.UnknownDirective 5 (reading false spec (codes ".inputs a\n.outputs x\n.graph\na+ x+\n.capacity p=1\n.end\n"))
+capacity = refl
 
-loop : sizes (reading (codes ".inputs a\n.outputs x\n.graph\na+ a+\n.marking { <a+/0,a+> }\n.end\n")) ≡ Some (2 ∷ 1 ∷ 1 ∷ 2 ∷ 1 ∷ 1 ∷ [])
-loop = refl
+late_inputs : is_fault rules.OutOfOrder 5 (reading false spec (codes ".inputs a\n.outputs x\n.graph\na+ x+\n.inputs b\n.end\n"))
+late_inputs = refl
 
-index : sizes (reading (codes ".inputs a\n.outputs x\n.graph\na+/01 x~\n.marking { <a+/1,x~> }\n.end\n")) ≡ Some (2 ∷ 2 ∷ 1 ∷ 2 ∷ 1 ∷ 1 ∷ [])
-index = refl
+bad_index : is_fault rules.BadName 4 (reading false spec (codes ".inputs a\n.outputs x\n.graph\na+ x+/y\n.marking { }\n.end\n"))
+bad_index = refl
 
-reversed : sizes (reading (codes ".inputs a\n.outputs x\n.graph\na+ x+\nx+ a+\n.end\n")) ≡ Some (2 ∷ 2 ∷ 2 ∷ 4 ∷ 0 ∷ 2 ∷ [])
-reversed = refl
+twice : is_fault rules.DeclaredTwice 2 (reading false spec (codes ".inputs a\n.outputs a\n.graph\na+ x+\n.marking { }\n.end\n"))
+twice = refl
 
-undeclared : reading (codes ".inputs a\n.outputs x\n.graph\na+ y+\n.end\n") ≡ None
-undeclared = refl
+unknown : is_fault rules.UnknownSignal 4 (reading false spec (codes ".inputs a\n.outputs x\n.graph\na+ y+\n.marking { }\n.end\n"))
+unknown = refl
 
-repeated : reading (codes ".inputs a\n.outputs x\n.graph\na+ x+\na+ x+\n.end\n") ≡ None
+no_edge : is_fault rules.NoEdge 4 (reading false spec (codes ".inputs a\n.outputs x\n.graph\na+ x\n.marking { }\n.end\n"))
+no_edge = refl
+
+bad_arc : is_fault rules.BadArc 4 (reading false spec (codes ".inputs a\n.outputs x\n.graph\np q\n.marking { }\n.end\n"))
+bad_arc = refl
+
+repeated : is_fault rules.RepeatedArc 4 (reading false spec (codes ".inputs a\n.outputs x\n.graph\na+ x+ x+/0\n.marking { }\n.end\n"))
 repeated = refl
 
-repeated_on_line : reading (codes ".inputs a\n.outputs x\n.graph\na+ x+ x+/0\n.end\n") ≡ None
-repeated_on_line = refl
+heavy : is_fault rules.BadWeight 4 (reading false spec (codes ".inputs a\n.outputs x\n.graph\na+ p(1001)\n.marking { }\n.end\n"))
+heavy = refl
 
-name_twice : reading (codes ".inputs a\n.outputs a\n.graph\n.end\n") ≡ None
-name_twice = refl
+heavy_between : is_fault rules.BadWeight 4 (reading false spec (codes ".inputs a\n.outputs x\n.graph\na+ x+(2)\n.marking { }\n.end\n"))
+heavy_between = refl
 
-comment : reading (codes ".inputs a\n.outputs x\n.graph\na+ x+ # \n.end\n") ≡ None
-comment = refl
+mark_p : is_fault rules.BadMarking 5 (reading false spec (codes ".inputs a\n.outputs x\n.graph\na+ x+\n.marking { p }\n.end\n"))
+mark_p = refl
 
-tab : reading (codes ".inputs a\n.outputs x\n.graph\na+\tx+\n.end\n") ≡ None
-tab = refl
+mark_many : is_fault rules.BadMarking 5 (reading false spec (codes ".inputs a\n.outputs x\n.graph\na+ x+\n.marking { <a+,x+>=1001 }\n.end\n"))
+mark_many = refl
 
-crlf : reading (codes ".graph" ++ 13 ∷ codes "\n.end\n") ≡ None
-crlf = refl
+mark_twice : is_fault rules.BadMarking 5 (reading false spec (codes ".inputs a\n.outputs x\n.graph\na+ x+\n.marking { <a+,x+> <a+/0,x+> }\n.end\n"))
+mark_twice = refl
 
-high : reading (codes ".graph\n.end " ++ 128 ∷ []) ≡ None
-high = refl
+mark_open : is_fault rules.BadMarking 6 (reading false spec (codes ".inputs a\n.outputs x\n.graph\na+ x+\n.marking {\n.end\n"))
+mark_open = refl
 
-empty_line : reading (codes ".inputs a\n.outputs x\n.graph\n\na+ x+\n.end\n") ≡ None
-empty_line = refl
+only_end : is_fault rules.NoGraph 2 (reading false spec (codes ".inputs a\n.end\n"))
+only_end = refl
 
-spaces_alone : reading (codes ".inputs a\n.outputs x\n.graph\n  \na+ x+\n.end\n") ≡ None
-spaces_alone = refl
+empty : is_fault rules.NoGraph 1 (reading false spec ([]))
+empty = refl
 
-no_text : reading (codes "") ≡ None
-no_text = refl
-
-marking_first : reading (codes ".inputs a\n.marking { }\n.graph\n.end\n") ≡ None
-marking_first = refl
-
-outputs_first : reading (codes ".outputs a\n.inputs b\n.graph\n.end\n") ≡ None
-outputs_first = refl
-
-model_twice : reading (codes ".model a\n.model b\n.graph\n.end\n") ≡ None
-model_twice = refl
-
-model_bare : reading (codes ".model\n.graph\n.end\n") ≡ None
-model_bare = refl
-
-entry_twice : reading (codes ".inputs a\n.outputs x\n.graph\na+ x+\n.marking { <a+,x+> <a+,x+/00> }\n.end\n") ≡ None
-entry_twice = refl
-
-entry_without_pair : reading (codes ".inputs a\n.outputs x\n.graph\na+ x+\n.marking { <x+,a+> }\n.end\n") ≡ None
-entry_without_pair = refl
-
-entry_with_tokens : reading (codes ".inputs a\n.outputs x\n.graph\na+ x+\n.marking { <a+,x+>=1 }\n.end\n") ≡ None
-entry_with_tokens = refl
-
-entry_in_words : reading (codes ".inputs a\n.outputs x\n.graph\na+ x+\n.marking { <a+, x+> }\n.end\n") ≡ None
-entry_in_words = refl
-
-brace_joined : reading (codes ".inputs a\n.outputs x\n.graph\na+ x+\n.marking {<a+,x+>}\n.end\n") ≡ None
-brace_joined = refl
-
-no_brace : reading (codes ".inputs a\n.outputs x\n.graph\na+ x+\n.marking { <a+,x+>\n.end\n") ≡ None
-no_brace = refl
-
-words_after_end : reading (codes ".inputs a\n.outputs x\n.graph\na+ x+\n.end x\n") ≡ None
-words_after_end = refl
-
-lines_after_end : reading (codes ".inputs a\n.outputs x\n.graph\na+ x+\n.end\n.end\n") ≡ None
-lines_after_end = refl
-
-place : reading (codes ".inputs a\n.outputs x\n.graph\na+ p\np x+\n.end\n") ≡ None
-place = refl
-
-internal : reading (codes ".internal a\n.graph\n.end\n") ≡ None
-internal = refl
-
-no_end : reading (codes ".inputs a\n.outputs x\n.graph\na+ x+\n") ≡ None
+no_end : is_fault rules.NoEnd 6 (reading false spec (codes ".inputs a\n.outputs x\n.graph\na+ x+\n.marking { }\n"))
 no_end = refl
 
-no_graph : reading (codes ".inputs a\n.end\n") ≡ None
-no_graph = refl
+dummy : is_fault rules.HasDummy 3 (reading false spec (codes ".inputs a\n.outputs x\n.dummy e\n.graph\na+ x+\n.marking { }\n.end\n"))
+dummy = refl
 
-words_after_graph : reading (codes ".graph a\n.end\n") ≡ None
-words_after_graph = refl
+weights : is_good (reading false spec (codes ".inputs a\n.outputs x\n.graph\na+ p(1000)\np x+(1000)\n.marking { }\n.end\n"))
+weights = tt
 
-one_word : reading (codes ".inputs a\n.outputs x\n.graph\na+\n.end\n") ≡ None
-one_word = refl
+zero_index : is_good (reading false spec (codes ".inputs a\n.outputs x\n.graph\na+/0 x+\n.marking { }\n.end\n"))
+zero_index = tt
 
-marking_twice : reading (codes ".graph\n.marking { }\n.marking { }\n.end\n") ≡ None
-marking_twice = refl
+mark_lines : is_good (reading false spec (codes ".inputs a\n.outputs x\n.graph\na+ x+\n.marking {\n<a+ , x+> = 2\n}\n.end\n"))
+mark_lines = tt
 
-graph_after_marking : reading (codes ".inputs a\n.outputs x\n.graph\n.marking { }\na+ x+\n.end\n") ≡ None
-graph_after_marking = refl
+no_marking : is_good (reading false spec (codes ".inputs a\n.outputs x\n.graph\na+ x+\n.end\n"))
+no_marking = tt
 
-blank_last : reading (codes ".inputs a\n.outputs x\n.graph\na+ x+\n.end\n\n") ≡ None
-blank_last = refl
+end_words : is_good (reading false spec (codes ".inputs a\n.outputs x\n.graph\na+ x+\n.marking { }\n.end here\n" ++ (1 ∷ []) ++ codes "\n"))
+end_words = tt
 
-inputs_in_graph : reading (codes ".inputs a\n.outputs x\n.graph\n.inputs b\n.end\n") ≡ None
-inputs_in_graph = refl
+crlf : is_good (reading false spec (codes ".inputs a" ++ (13 ∷ []) ++ codes "\n.outputs x" ++ (13 ∷ []) ++ codes "\n.graph" ++ (13 ∷ []) ++ codes "\na+ x+" ++ (13 ∷ []) ++ codes "\n.marking { }" ++ (13 ∷ []) ++ codes "\n.end" ++ (13 ∷ []) ++ codes "\n"))
+crlf = tt
 
-name_with_dot_first : reading (codes ".inputs .a\n.graph\n.end\n") ≡ None
-name_with_dot_first = refl
+name_repeated : is_good (reading false spec (codes ".name t\n.inputs\n.inputs a\n.outputs x\n.graph\na+ x+\n.marking { }\n.end\n"))
+name_repeated = tt
 
-name_too_long : reading (codes ".inputs aaaaaaaaaaaaaaaaaaaaaaaaaaaaaaaaaaaaaaaaaaaaaaaaaaaaaaaaaaaaaaaaaaaaaaaaaaaaaaaaaaaaaaaaaaaaaaaaaaaaa\n.graph\n.end\n") ≡ None
-name_too_long = refl
+end_bad_byte : is_fault rules.BadByte 6 (reading false spec (codes ".inputs a\n.outputs x\n.graph\na+ x+\n.marking { }\n.end " ++ (1 ∷ []) ++ codes "\n"))
+end_bad_byte = refl
 
-name_long_enough : sizes (reading (codes ".inputs aaaaaaaaaaaaaaaaaaaaaaaaaaaaaaaaaaaaaaaaaaaaaaaaaaaaaaaaaaaaaaaaaaaaaaaaaaaaaaaaaaaaaaaaaaaaaaaaaaaa\n.graph\n.end\n")) ≡ Some (1 ∷ 0 ∷ 0 ∷ 0 ∷ 0 ∷ 0 ∷ [])
-name_long_enough = refl
+comment_bad : is_good (reading false spec (codes ".inputs a\n.outputs x\n.graph\na+ x+ #" ++ (1 ∷ []) ++ (255 ∷ []) ++ codes "\n.marking { }\n.end\n"))
+comment_bad = tt
 
-index_too_long : reading (codes ".inputs a\n.outputs x\n.graph\na+/0000000001 x+\n.end\n") ≡ None
-index_too_long = refl
+bad_no_words : is_fault rules.BadByte 5 (reading false spec (codes ".inputs a\n.outputs x\n.graph\na+ x+\n" ++ (127 ∷ []) ++ codes "\n.marking { }\n.end\n"))
+bad_no_words = refl
 
-index_missing : reading (codes ".inputs a\n.outputs x\n.graph\na+/ x+\n.end\n") ≡ None
-index_missing = refl
+after_close : is_fault rules.BadMarking 5 (reading false spec (codes ".inputs a\n.outputs x\n.graph\na+ x+\n.marking { } p\n.end\n"))
+after_close = refl
 
-too_many_names : reading (codes ".inputs s0 s1 s2 s3 s4 s5 s6 s7 s8 s9 s10 s11 s12 s13 s14 s15 s16 s17 s18 s19 s20 s21 s22 s23 s24 s25 s26 s27 s28 s29 s30 s31 s32 s33 s34 s35 s36 s37 s38 s39 s40 s41 s42 s43 s44 s45 s46 s47 s48 s49 s50 s51 s52 s53 s54 s55 s56 s57 s58 s59 s60 s61 s62 s63 s64 s65 s66 s67 s68 s69 s70 s71 s72 s73 s74 s75 s76 s77 s78 s79 s80 s81 s82 s83 s84 s85 s86 s87 s88 s89 s90 s91 s92 s93 s94 s95 s96 s97 s98 s99 s100 s101 s102 s103 s104 s105 s106 s107 s108 s109 s110 s111 s112 s113 s114 s115 s116 s117 s118 s119 s120 s121 s122 s123 s124 s125 s126 s127 s128 s129 s130 s131 s132 s133 s134 s135 s136 s137 s138 s139 s140 s141 s142 s143 s144 s145 s146 s147 s148 s149 s150 s151 s152 s153 s154 s155 s156 s157 s158 s159 s160 s161 s162 s163 s164 s165 s166 s167 s168 s169 s170 s171 s172 s173 s174 s175 s176 s177 s178 s179 s180 s181 s182 s183 s184 s185 s186 s187 s188 s189 s190 s191 s192 s193 s194 s195 s196 s197 s198 s199 s200 s201 s202 s203 s204 s205 s206 s207 s208 s209 s210 s211 s212 s213 s214 s215 s216 s217 s218 s219 s220 s221 s222 s223 s224 s225 s226 s227 s228 s229 s230 s231 s232 s233 s234 s235 s236 s237 s238 s239 s240 s241 s242 s243 s244 s245 s246 s247 s248 s249 s250\n.graph\n.end\n") ≡ None
-too_many_names = refl
+after_close_line : is_fault rules.OutOfOrder 6 (reading false spec (codes ".inputs a\n.outputs x\n.graph\na+ x+\n.marking { }\na+ x-\n.end\n"))
+after_close_line = refl
 
-most_names : sizes (reading (codes ".inputs s0 s1 s2 s3 s4 s5 s6 s7 s8 s9 s10 s11 s12 s13 s14 s15 s16 s17 s18 s19 s20 s21 s22 s23 s24 s25 s26 s27 s28 s29 s30 s31 s32 s33 s34 s35 s36 s37 s38 s39 s40 s41 s42 s43 s44 s45 s46 s47 s48 s49 s50 s51 s52 s53 s54 s55 s56 s57 s58 s59 s60 s61 s62 s63 s64 s65 s66 s67 s68 s69 s70 s71 s72 s73 s74 s75 s76 s77 s78 s79 s80 s81 s82 s83 s84 s85 s86 s87 s88 s89 s90 s91 s92 s93 s94 s95 s96 s97 s98 s99 s100 s101 s102 s103 s104 s105 s106 s107 s108 s109 s110 s111 s112 s113 s114 s115 s116 s117 s118 s119 s120 s121 s122 s123 s124 s125 s126 s127 s128 s129 s130 s131 s132 s133 s134 s135 s136 s137 s138 s139 s140 s141 s142 s143 s144 s145 s146 s147 s148 s149 s150 s151 s152 s153 s154 s155 s156 s157 s158 s159 s160 s161 s162 s163 s164 s165 s166 s167 s168 s169 s170 s171 s172 s173 s174 s175 s176 s177 s178 s179 s180 s181 s182 s183 s184 s185 s186 s187 s188 s189 s190 s191 s192 s193 s194 s195 s196 s197 s198 s199 s200 s201 s202 s203 s204 s205 s206 s207 s208 s209 s210 s211 s212 s213 s214 s215 s216 s217 s218 s219 s220 s221 s222 s223 s224 s225 s226 s227 s228 s229 s230 s231 s232 s233 s234 s235 s236 s237 s238 s239 s240 s241 s242 s243 s244 s245 s246 s247 s248 s249\n.graph\n.end\n")) ≡ Some (250 ∷ 0 ∷ 0 ∷ 0 ∷ 0 ∷ 0 ∷ [])
-most_names = refl
+after_close_brace : is_fault rules.OutOfOrder 6 (reading false spec (codes ".inputs a\n.outputs x\n.graph\na+ x+\n.marking { }\n}\n.end\n"))
+after_close_brace = refl
 
--- a whole specification, with a loop
-whole : reading (codes ".inputs a\n.outputs x\n.graph\nx- a+/2 x-\n.marking { <x-,x-/0> }\n.end\n") ≡ Some (record {
-  net = record {
-    signals = record { name = codes "a"; kind = Input } ∷ record { name = codes "x"; kind = Output } ∷ [];
-    trans = record { signal = 1; edge = Fall; index = 0 } ∷ record { signal = 0; edge = Rise; index = 2 } ∷ [];
-    tokens = 0 ∷ 1 ∷ [];
-    arcs = into_place 0 0 ∷ out_of_place 0 1 ∷ out_of_place 1 0 ∷ into_place 1 0 ∷ [];
-  };
-  place_names = Between 0 1 ∷ Between 0 0 ∷ [];
-})
-whole = refl
+second_marking : is_fault rules.OutOfOrder 6 (reading false spec (codes ".inputs a\n.outputs x\n.graph\na+ x+\n.marking { }\n.marking { }\n.end\n"))
+second_marking = refl
 
--- a whole specification that tells inputs from outputs, one end from the other, and one place from another
-told_apart : reading (codes ".inputs a\n.outputs x\n.graph\nx+ a+ x+\na- x+\n.marking { <x+,x+> }\n.end\n") ≡ Some (record {
-  net = record {
-    signals = record { name = codes "a"; kind = Input } ∷ record { name = codes "x"; kind = Output } ∷ [];
-    trans = record { signal = 1; edge = Rise; index = 0 } ∷ record { signal = 0; edge = Rise; index = 0 } ∷ record { signal = 0; edge = Fall; index = 0 } ∷ [];
-    tokens = 0 ∷ 1 ∷ 0 ∷ [];
-    arcs = into_place 0 0 ∷ out_of_place 0 1 ∷ out_of_place 1 0 ∷ into_place 1 0 ∷ out_of_place 2 0 ∷ into_place 2 2 ∷ [];
-  };
-  place_names = Between 0 1 ∷ Between 0 0 ∷ Between 2 0 ∷ [];
-})
-told_apart = refl
+graph_twice : is_fault rules.OutOfOrder 5 (reading false spec (codes ".inputs a\n.outputs x\n.graph\na+ x+\n.graph\n.end\n"))
+graph_twice = refl
 
-marking_joined : reading (codes ".graph\n.marking {}\n.end\n") ≡ None
-marking_joined = refl
+graph_words : is_fault rules.BadName 3 (reading false spec (codes ".inputs a\n.outputs x\n.graph x y\na+ x+\n.marking { }\n.end\n"))
+graph_words = refl
 
-no_names : sizes (reading (codes ".inputs\n.graph\n.end\n")) ≡ Some (0 ∷ 0 ∷ 0 ∷ 0 ∷ 0 ∷ 0 ∷ [])
-no_names = refl
+model_late : is_fault rules.OutOfOrder 5 (reading false spec (codes ".inputs a\n.outputs x\n.graph\na+ x+\n.model m\n.end\n"))
+model_late = refl
 
-model_of_two_words : reading (codes ".model a b\n.graph\n.end\n") ≡ None
-model_of_two_words = refl
+marking_early : is_fault rules.OutOfOrder 1 (reading false spec (codes ".marking { }\n.inputs a\n.outputs x\n.graph\na+ x+\n.marking { }\n.end\n"))
+marking_early = refl
 
-index_of_nine_digits : sizes (reading (codes ".inputs a\n.outputs x\n.graph\na+/999999999 x+\n.end\n")) ≡ Some (2 ∷ 2 ∷ 1 ∷ 2 ∷ 0 ∷ 1 ∷ [])
-index_of_nine_digits = refl
+marking_before_graph_bad : is_fault rules.OutOfOrder 1 (reading false spec (codes ".marking p\n.inputs a\n.outputs x\n.graph\na+ x+\n.marking { }\n.end\n"))
+marking_before_graph_bad = refl
 
-index_of_ten_digits : reading (codes ".inputs a\n.outputs x\n.graph\na+/1000000000 x+\n.end\n") ≡ None
-index_of_ten_digits = refl
+graph_line_early : is_fault rules.OutOfOrder 1 (reading false spec (codes "a+ x+\n.inputs a\n.outputs x\n.graph\na+ x+\n.marking { }\n.end\n"))
+graph_line_early = refl
 
-delete_byte : reading (codes ".graph\n.end " ++ 127 ∷ []) ≡ None
-delete_byte = refl
+inside_directive : is_fault rules.BadMarking 6 (reading false spec (codes ".inputs a\n.outputs x\n.graph\na+ x+\n.marking {\n.inputs q\n}\n.end\n"))
+inside_directive = refl
 
-entry_undeclared : reading (codes ".inputs a\n.outputs x\n.graph\na+ x+\n.marking { <a+,y+> }\n.end\n") ≡ None
-entry_undeclared = refl
+inside_end : is_fault rules.BadMarking 6 (reading false spec (codes ".inputs a\n.outputs x\n.graph\na+ x+\n.marking { <a+,\n.end\n"))
+inside_end = refl
 
-line_feed_alone : reading (codes "\n") ≡ None
-line_feed_alone = refl
+inside_bad : is_fault rules.BadByte 6 (reading false spec (codes ".inputs a\n.outputs x\n.graph\na+ x+\n.marking {\n" ++ (2 ∷ []) ++ codes "\n}\n.end\n"))
+inside_bad = refl
+
+mark_signal : is_fault rules.BadMarking 5 (reading false spec (codes ".inputs a\n.outputs x\n.graph\na+ x+\n.marking { a }\n.end\n"))
+mark_signal = refl
+
+mark_unknown : is_fault rules.BadMarking 5 (reading false spec (codes ".inputs a\n.outputs x\n.graph\na+ x+\n.marking { <zz+,x+> }\n.end\n"))
+mark_unknown = refl
+
+mark_split : is_good (reading false spec (codes ".inputs a\n.outputs x\n.graph\na+ x+\n.marking\n{\n<\na+\n,\nx+\n>\n=\n3\n}\n.end\n"))
+mark_split = tt
+
+mark_zero : is_good (reading false spec (codes ".inputs a\n.outputs x\n.graph\na+ x+\n.marking { <a+,x+>=0 }\n.end\n"))
+mark_zero = tt
+
+mark_no_number : is_fault rules.BadMarking 5 (reading false spec (codes ".inputs a\n.outputs x\n.graph\na+ x+\n.marking { <a+,x+>= }\n.end\n"))
+mark_no_number = refl
+
+mark_eq_close : is_fault rules.BadMarking 6 (reading false spec (codes ".inputs a\n.outputs x\n.graph\na+ x+\n.marking { <a+,x+>=\n}\n.end\n"))
+mark_eq_close = refl
+
+mark_rev : is_fault rules.BadMarking 5 (reading false spec (codes ".inputs a\n.outputs x\n.graph\na+ x+\n.marking { <x+,a+> }\n.end\n"))
+mark_rev = refl
+
+mark_incomplete : is_fault rules.BadMarking 5 (reading false spec (codes ".inputs a\n.outputs x\n.graph\na+ x+\n.marking { <a+,x+ }\n.end\n"))
+mark_incomplete = refl
+
+mark_no_brace : is_fault rules.BadMarking 5 (reading false spec (codes ".inputs a\n.outputs x\n.graph\na+ x+\n.marking p { }\n.end\n"))
+mark_no_brace = refl
+
+mark_empty_word : is_good (reading false spec (codes ".inputs a\n.outputs x\n.graph\na+ x+\n.marking\n\n# c\n{ }\n.end\n"))
+mark_empty_word = tt
+
+mark_bare_eq : is_fault rules.BadMarking 5 (reading false spec (codes ".inputs a\n.outputs x\n.graph\na+ x+\n.marking { = 3 }\n.end\n"))
+mark_bare_eq = refl
+
+mark_eq_twice : is_fault rules.BadMarking 5 (reading false spec (codes ".inputs a\n.outputs x\n.graph\na+ x+\n.marking { <a+,x+>=1=1 }\n.end\n"))
+mark_eq_twice = refl
+
+mark_num10 : is_fault rules.BadMarking 5 (reading false spec (codes ".inputs a\n.outputs x\n.graph\na+ x+\n.marking { <a+,x+>=0000000001 }\n.end\n"))
+mark_num10 = refl
+
+mark_num9 : is_good (reading false spec (codes ".inputs a\n.outputs x\n.graph\na+ x+\n.marking { <a+,x+>=000000001 }\n.end\n"))
+mark_num9 = tt
+
+mark_open_brace : is_fault rules.BadMarking 5 (reading false spec (codes ".inputs a\n.outputs x\n.graph\na+ x+\n.marking { { }\n.end\n"))
+mark_open_brace = refl
+
+mark_paren : is_fault rules.BadMarking 5 (reading false spec (codes ".inputs a\n.outputs x\n.graph\na+ x+\n.marking { ( }\n.end\n"))
+mark_paren = refl
+
+group_first : is_fault rules.BadName 4 (reading false spec (codes ".inputs a\n.outputs x\n.graph\n( 2 )\n.marking { }\n.end\n"))
+group_first = refl
+
+group_source : is_fault rules.BadWeight 4 (reading false spec (codes ".inputs a\n.outputs x\n.graph\na+ (2) p\n.marking { }\n.end\n"))
+group_source = refl
+
+group_twice : is_fault rules.BadWeight 4 (reading false spec (codes ".inputs a\n.outputs x\n.graph\na+ p(2)(3)\n.marking { }\n.end\n"))
+group_twice = refl
+
+group_open : is_fault rules.BadWeight 4 (reading false spec (codes ".inputs a\n.outputs x\n.graph\na+ p(\n.marking { }\n.end\n"))
+group_open = refl
+
+group_no_number : is_fault rules.BadWeight 4 (reading false spec (codes ".inputs a\n.outputs x\n.graph\na+ p()\n.marking { }\n.end\n"))
+group_no_number = refl
+
+group_swallows : is_fault rules.BadWeight 4 (reading false spec (codes ".inputs a\n.outputs x\n.graph\na+ p( x+ y+\n.marking { }\n.end\n"))
+group_swallows = refl
+
+group_zero : is_fault rules.BadWeight 4 (reading false spec (codes ".inputs a\n.outputs x\n.graph\na+ p(0)\n.marking { }\n.end\n"))
+group_zero = refl
+
+group_zeros : is_good (reading false spec (codes ".inputs a\n.outputs x\n.graph\na+ p(0001)\n.marking { }\n.end\n"))
+group_zeros = tt
+
+group_nine : is_fault rules.BadWeight 4 (reading false spec (codes ".inputs a\n.outputs x\n.graph\na+ p(0000000001)\n.marking { }\n.end\n"))
+group_nine = refl
+
+group_one_between : is_fault rules.BadWeight 4 (reading false spec (codes ".inputs a\n.outputs x\n.graph\na+ x+(1)\n.marking { }\n.end\n"))
+group_one_between = refl
+
+stray_close : is_fault rules.BadName 4 (reading false spec (codes ".inputs a\n.outputs x\n.graph\na+ p)\n.marking { }\n.end\n"))
+stray_close = refl
+
+name_first : is_fault rules.BadName 4 (reading false spec (codes ".inputs a\n.outputs x\n.graph\na+ p(2) ?\n.marking { }\n.end\n"))
+name_first = refl
+
+order_4_6 : is_fault rules.BadName 4 (reading false spec (codes ".inputs a\n.outputs x\n.graph\ny+ a+ ?\n.marking { }\n.end\n"))
+order_4_6 = refl
+
+order_6_7 : is_fault rules.UnknownSignal 4 (reading false spec (codes ".inputs a\n.outputs x\n.graph\na x y+\n.marking { }\n.end\n"))
+order_6_7 = refl
+
+order_7_8 : is_fault rules.NoEdge 4 (reading false spec (codes ".inputs a\n.outputs x\n.graph\np q x\n.marking { }\n.end\n"))
+order_7_8 = refl
+
+order_8_9 : is_fault rules.BadArc 4 (reading false spec (codes ".inputs a\n.outputs x\n.graph\np q q\n.marking { }\n.end\n"))
+order_8_9 = refl
+
+order_9_10 : is_fault rules.RepeatedArc 4 (reading false spec (codes ".inputs a\n.outputs x\n.graph\na+ p(0) p\n.marking { }\n.end\n"))
+order_9_10 = refl
+
+order_8_10 : is_fault rules.BadArc 4 (reading false spec (codes ".inputs a\n.outputs x\n.graph\np q(0)\n.marking { }\n.end\n"))
+order_8_10 = refl
+
+loop : is_good (reading false spec (codes ".inputs a\n.outputs x\n.graph\na+ a+\n.marking { }\n.end\n"))
+loop = tt
+
+loop_twice : is_fault rules.RepeatedArc 4 (reading false spec (codes ".inputs a\n.outputs x\n.graph\na+ a+ a+/00\n.marking { }\n.end\n"))
+loop_twice = refl
+
+arc_back : is_good (reading false spec (codes ".inputs a\n.outputs x\n.graph\na+ p\np a+\n.marking { }\n.end\n"))
+arc_back = tt
+
+arc_twice_lines : is_fault rules.RepeatedArc 5 (reading false spec (codes ".inputs a\n.outputs x\n.graph\na+ p\na+ p\n.marking { }\n.end\n"))
+arc_twice_lines = refl
+
+implicit_twice_lines : is_fault rules.RepeatedArc 5 (reading false spec (codes ".inputs a\n.outputs x\n.graph\na+ x+\na+/0 x+\n.marking { }\n.end\n"))
+implicit_twice_lines = refl
+
+alone_twice : is_good (reading false spec (codes ".inputs a\n.outputs x\n.graph\na+\na+\np\np\n.marking { }\n.end\n"))
+alone_twice = tt
+
+edge_only : is_fault rules.BadName 4 (reading false spec (codes ".inputs a\n.outputs x\n.graph\n+\n.marking { }\n.end\n"))
+edge_only = refl
+
+dotname : is_fault rules.BadName 4 (reading false spec (codes ".inputs a\n.outputs x\n.graph\na+ .p\n.marking { }\n.end\n"))
+dotname = refl
+
+dot_first : is_fault rules.UnknownDirective 4 (reading false spec (codes ".inputs a\n.outputs x\n.graph\n.p a+\n.marking { }\n.end\n"))
+dot_first = refl
+
+brackets : is_good (reading false spec (codes ".inputs a\n.outputs x\n.graph\na+ p[1].x\n.marking { }\n.end\n"))
+brackets = tt
+
+bad_first : is_fault rules.BadName 4 (reading false spec (codes ".inputs a\n.outputs x\n.graph\na+ [1]\n.marking { }\n.end\n"))
+bad_first = refl
+
+tilde : is_good (reading false spec (codes ".inputs a\n.outputs x\n.graph\na~ x~/12\n.marking { }\n.end\n"))
+tilde = tt
+
+index_10 : is_fault rules.BadName 4 (reading false spec (codes ".inputs a\n.outputs x\n.graph\na+ x+/0000000001\n.marking { }\n.end\n"))
+index_10 = refl
+
+index_none : is_fault rules.BadName 4 (reading false spec (codes ".inputs a\n.outputs x\n.graph\na+ x+/\n.marking { }\n.end\n"))
+index_none = refl
+
+double_edge : is_fault rules.BadName 4 (reading false spec (codes ".inputs a\n.outputs x\n.graph\na+ x+-\n.marking { }\n.end\n"))
+double_edge = refl
+
+comma : is_fault rules.BadName 4 (reading false spec (codes ".inputs a\n.outputs x\n.graph\na+,x+\n.marking { }\n.end\n"))
+comma = refl
+
+tabs : is_good (reading false spec (codes ".inputs a\n.outputs x\n.graph\n\ta+\tx+\t\n.marking { }\n.end\n"))
+tabs = tt
+
+dummy_none : is_good (reading false spec (codes ".dummy\n.inputs a\n.outputs x\n.graph\na+ x+\n.marking { }\n.end\n"))
+dummy_none = tt
+
+dummy_twice : is_fault rules.HasDummy 1 (reading false spec (codes ".dummy a\n.inputs a\n"))
+dummy_twice = refl
+
+dummy_after : is_fault rules.DeclaredTwice 2 (reading false spec (codes ".inputs a\n.dummy a\n.outputs x\n.graph\na+ x+\n.marking { }\n.end\n"))
+dummy_after = refl
+
+dummy_bad : is_fault rules.BadName 1 (reading false spec (codes ".dummy +\n.inputs a\n.outputs x\n.graph\na+ x+\n.marking { }\n.end\n"))
+dummy_bad = refl
+
+twice_here : is_fault rules.DeclaredTwice 1 (reading false spec (codes ".inputs a a\n.outputs x\n.graph\na+ x+\n.marking { }\n.end\n"))
+twice_here = refl
+
+twice_bad : is_fault rules.BadName 1 (reading false spec (codes ".inputs a a +\n.outputs x\n.graph\na+ x+\n.marking { }\n.end\n"))
+twice_bad = refl
+
+dummy_no_lf : is_fault rules.HasDummy 1 (reading false spec (codes ".dummy e"))
+dummy_no_lf = refl
+
+no_lf : is_good (reading false spec (codes ".inputs a\n.outputs x\n.graph\na+ x+\n.marking { }\n.end"))
+no_lf = tt
+
+no_end_no_lf : is_fault rules.NoEnd 4 (reading false spec (codes ".inputs a\n.graph\na+ p\n.marking { p"))
+no_end_no_lf = refl
+
+end_in_marking_eof : is_fault rules.NoEnd 5 (reading false spec (codes ".inputs a\n.graph\na+ p\n.marking {\n"))
+end_in_marking_eof = refl
+
+no_graph_lines : is_fault rules.NoGraph 4 (reading false spec (codes ".inputs a\n\n# x\n"))
+no_graph_lines = refl
+
+end_first : is_fault rules.NoGraph 1 (reading false spec (codes ".end"))
+end_first = refl
+
+end_nul : is_fault rules.BadByte 1 (reading false spec (codes ".end" ++ (0 ∷ [])))
+end_nul = refl
+
+unknown_late : is_fault rules.UnknownDirective 6 (reading false spec (codes ".inputs a\n.outputs x\n.graph\na+ x+\n.marking { }\n.foo\n.end\n"))
+unknown_late = refl
+
+header_after_marking : is_fault rules.OutOfOrder 6 (reading false spec (codes ".inputs a\n.outputs x\n.graph\na+ x+\n.marking { }\n.inputs b\n.end\n"))
+header_after_marking = refl
+
+dot : is_fault rules.UnknownDirective 1 (reading false spec (codes ".\n.inputs a\n.outputs x\n.graph\na+ x+\n.marking { }\n.end\n"))
+dot = refl
+
+end_glued : is_fault rules.UnknownDirective 6 (reading false spec (codes ".inputs a\n.outputs x\n.graph\na+ x+\n.marking { }\n.ends\n"))
+end_glued = refl
+
+name100 : is_good (reading false spec (codes ".inputs a bbbbbbbbbbbbbbbbbbbbbbbbbbbbbbbbbbbbbbbbbbbbbbbbbbbbbbbbbbbbbbbbbbbbbbbbbbbbbbbbbbbbbbbbbbbbbbbbbbbb\n.outputs x\n.graph\na+ x+\n.marking { }\n.end\n"))
+name100 = tt
+
+name101 : is_fault rules.BadName 1 (reading false spec (codes ".inputs a bbbbbbbbbbbbbbbbbbbbbbbbbbbbbbbbbbbbbbbbbbbbbbbbbbbbbbbbbbbbbbbbbbbbbbbbbbbbbbbbbbbbbbbbbbbbbbbbbbbbb\n.outputs x\n.graph\na+ x+\n.marking { }\n.end\n"))
+name101 = refl
+
+empty_text_lf : is_fault rules.NoGraph 2 (reading false spec (codes "\n"))
+empty_text_lf = refl
+
+cr_only : is_fault rules.NoGraph 2 (reading false spec ((13 ∷ []) ++ codes "\n.end\n"))
+cr_only = refl
+
+only_comment : is_fault rules.NoGraph 1 (reading false spec (codes "#"))
+only_comment = refl

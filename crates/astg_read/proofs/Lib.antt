@@ -1,7 +1,22 @@
-pub mod Examples
-pub mod RowLemmas
+mod Examples
+mod RawExamples
+mod LimitExamples
+pub mod StepLemmas
+pub mod NumberLemmas
+pub mod Keyed
 pub mod SignalLemmas
-pub mod ArcLemmas
-pub mod TransLemmas
-pub mod BuildLemmas
-pub mod SpecLemmas
+pub mod TargetLemmas
+pub mod SameLemmas
+pub mod GraphLemmas
+pub mod Verdicts
+pub mod NodeLemmas
+pub mod EntryLemmas
+pub mod CloseLemmas
+pub mod Takings
+pub mod Kept
+pub mod ReadLemmas
+pub mod Agains
+pub mod IndexLemmas
+pub mod GraphSound
+pub mod Sounds
+pub mod OneSpec

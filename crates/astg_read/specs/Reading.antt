@@ -1,53 +1,78 @@
--- What a specification text stands for.
-use Rattle.std.specs.Prelude.{ℕ, Bool, ◌&&◌, ◌==◌, nat_le, List, length, map, Option, None, Some, option_and_then, if◌then◌else◌}
-use Rattle.std.specs.List.{list_all}
-use Rattle.stg_net.specs.declared.signal.Signal.{Signal}
-use Rattle.stg_net.specs.declared.trans.TransName.{TransName}
+-- What a text stands for, or its first fault.
+use Rattle.std.specs.Prelude.{◌≡◌, ℕ, Bool, ◌+◌, nat_lt, List, [], ◌∷◌, ◌++◌, length, map, codes, Option, None, Some, Result, Ok, Err, if◌then◌else◌}
+use Rattle.std.specs.List.Sorted.{IsPermutation}
+use Rattle.stg_net.specs.declared.limits.Limits.{Limits}
 use Rattle.stg_net.specs.declared.spec.PlaceName.{PlaceName}
-use Rattle.stg_net.specs.declared.spec.PlaceName.TheVariants.{Between}
-use Rattle.stg_net.specs.declared.limits.TheConstants.Limits.{SPEC}
+use Rattle.stg_net.specs.declared.spec.PlaceName.TheVariants as place_names
+use Rattle.stg_net.specs.declared.trans.TransName.{TransName}
+use Rattle.stg_net.specs.Net.{NetLists, IsNet}
 use Rattle.stg_net.specs.Spec.{SpecLists}
-use Rattle.astg_read.specs.declared.links.Link.{Link}
-use Rattle.astg_read.specs.Rows.{Row, rows_of, is_plain}
-use Rattle.astg_read.specs.Sections.{Sections, sections_of}
-use Rattle.astg_read.specs.Signals.{signals_of}
-use Rattle.astg_read.specs.Links.{all_links, all_marks, times, transitions, trans_number, arcs_from}
+use Rattle.astg_lex.specs.Lines.{lines_of, line_ends}
+use Rattle.astg_read.specs.declared.rule.Rule.{Rule}
+use Rattle.astg_read.specs.declared.rule.Rule.TheVariants.{NoGraph, NoEnd, TooLong}
+use Rattle.astg_read.specs.Rows.{Row, has_graph}
+use Rattle.astg_read.specs.Header.{Declared}
+use Rattle.astg_read.specs.Graphs.{PlaceAt, Named, Between, trans_number}
+use Rattle.astg_read.specs.Markings.{entries_of, tokens_in}
+use Rattle.astg_read.specs.Known.{Known, known, arcs_in}
+use Rattle.astg_read.specs.Rules.{Line, seen_line, broken_by, ends_text}
 
--- each link stands once, and neither links nor transitions are too many
-abbrev pub are_sound : List Link → Bool
-are_sound links = nat_le (length links) SPEC.places && list_all (λ l. times links l == 1) links && nat_le (length (transitions links)) SPEC.trans
+-- a rule, and the line that breaks it
+pub record Fault : Type 0 where
+  pub rule : Rule
+  pub line : ℕ
 
--- each mark is a link, and none stands twice
-abbrev pub are_marks_of : List Link → List Link → Bool
-are_marks_of links marks = list_all (λ m. times links m == 1) marks && list_all (λ l. nat_le (times marks l) 1) links
+-- What a text stands for: a net with its arcs in the order of the text, its places, and the names of its dummies.
+pub record Meaning : Type 0 where
+  pub lists : NetLists
+  pub places : List PlaceAt
+  pub dummies : List (List ℕ)
 
--- a place is named for the numbers of its two transitions
-abbrev pub place_name : List TransName → Link → PlaceName
-place_name trans l = Between (trans_number trans l.from) (trans_number trans l.to)
+-- the tokens of a place
+abbrev pub tokens_by : Declared → Option Row → PlaceAt → ℕ
+tokens_by d None p = 0
+tokens_by d (Some words) p = tokens_in d (entries_of words) p
 
--- the specification with a place on each link, and a token for each mark
-abbrev pub spec_of : List Signal → List Link → List Link → SpecLists
-spec_of signals links marks = let trans = transitions links in record {
-  net = record { signals = signals; trans = trans; tokens = map (times marks) links; arcs = arcs_from trans 0 links };
-  place_names = map (place_name trans) links;
+-- what the lines up to .end stand for
+abbrev pub meaning_of : Known → Meaning
+meaning_of k = record {
+  lists = record { signals = k.declared.signals; trans = k.trans; tokens = map (tokens_by k.declared k.marking) k.places; arcs = arcs_in k };
+  places = k.places;
+  dummies = k.declared.dummies;
 }
 
--- that specification, where links and marks may stand so
-abbrev pub spec_in : List Signal → List Link → List Link → Option SpecLists
-spec_in signals links marks = if are_sound links && are_marks_of links marks then Some (spec_of signals links marks) else None
+-- the fault of a line, or what comes of the later ones
+abbrev pub or_fault : ℕ → Option Rule → Result Meaning Fault → Result Meaning Fault
+or_fault line None later = later
+or_fault line (Some rule) later = Err (record { rule = rule; line = line })
 
--- the specification of these links and of the links that the entries name
-abbrev pub with_entries : List Signal → Row → List Link → Option SpecLists
-with_entries signals entries links = option_and_then (spec_in signals links) (all_marks signals entries)
+-- where the text ends too early
+abbrev pub missing : Bool → Rule
+missing has_graph = if has_graph then NoEnd else NoGraph
 
--- the specification of sections whose names are these signals
-abbrev pub with_declared : Sections → List Signal → Option SpecLists
-with_declared s signals = option_and_then (with_entries signals s.entries) (all_links signals s.graph)
+-- What lines stand for after those before, or the first one that breaks a rule. Nothing after .end is looked at. The text ends on a line of this number.
+abbrev pub reading_after : Bool → Limits → ℕ → List Row → List Line → Result Meaning Fault
+reading_after is_raw limits last before [] = Err (record { rule = missing (has_graph before); line = last })
+reading_after is_raw limits last before (l ∷ ls) =
+    or_fault (length before + 1) (broken_by is_raw limits before l)
+    (if ends_text (known before) l.words then Ok (meaning_of (known before)) else reading_after is_raw limits last (before ++ l.words ∷ []) ls)
 
--- the specification for which sections stand
-abbrev pub reading_of : Sections → Option SpecLists
-reading_of s = option_and_then (with_declared s) (signals_of s)
+-- what a text stands for, or its first fault
+abbrev pub reading : Bool → Limits → List ℕ → Result Meaning Fault
+reading is_raw limits text =
+    if nat_lt limits.bytes (length text) then Err (record { rule = TooLong; line = 0 })
+    else reading_after is_raw limits (line_ends text + 1) [] (map seen_line (lines_of text))
 
--- the specification for which a text stands, none where it isn't of the form
-abbrev pub reading : List ℕ → Option SpecLists
-reading text = if nat_le (length text) SPEC.bytes && is_plain text then option_and_then reading_of (sections_of (rows_of text)) else None
+-- how a specification names a place: by its name, or by the numbers of two transitions
+abbrev pub place_name : List TransName → PlaceAt → PlaceName
+place_name trans (Named name) = place_names.Named name
+place_name trans (Between t u) = place_names.Between (trans_number trans t) (trans_number trans u)
+
+-- The specification of a text: its arcs are those of the text, in the order of a net.
+pub record IsSpecOf (m : Meaning) (s : SpecLists) : Type 0 where
+  pub signals : s.net.signals ≡ m.lists.signals
+  pub trans : s.net.trans ≡ m.lists.trans
+  pub tokens : s.net.tokens ≡ m.lists.tokens
+  pub arcs : IsPermutation m.lists.arcs s.net.arcs
+  pub is_net : IsNet s.net
+  pub place_names : s.place_names ≡ map (place_name m.lists.trans) m.places

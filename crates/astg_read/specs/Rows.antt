@@ -1,10 +1,8 @@
--- The rows of a text: the words of each of its lines.
-use Rattle.std.specs.Prelude.{ℕ, Bool, not, ◌&&◌, ◌||◌, ◌==◌, ◌+◌, nat_lt, List, [], ◌∷◌, length, take, drop, map, filter, position, Option, if◌then◌else◌}
-use Rattle.std.specs.List.{list_all}
-use Rattle.std.specs.Option.{option_map}
-use Rattle.stg_net.specs.Names.{is_between}
+-- The rows of a text, which are the words of its lines, and what kind of line each is.
+use Rattle.std.specs.Prelude.{ℕ, Bool, false, not, ◌||◌, ◌==◌, List, [], ◌∷◌, ◌++◌, flat_map, filter, codes, bytes_eq, if◌then◌else◌, Option, None, Some}
+use Rattle.std.specs.List.{list_any}
 
--- bytes between spaces
+-- a byte or a run of bytes that stands by itself
 abbrev pub Word : Type 0
 Word = List ℕ
 
@@ -12,36 +10,67 @@ Word = List ℕ
 abbrev pub Row : Type 0
 Row = List Word
 
--- a further byte at the front of the first piece
-abbrev pub with_byte : ℕ → List (List ℕ) → List (List ℕ)
-with_byte b [] = (b ∷ []) ∷ []
-with_byte b (piece ∷ others) = (b ∷ piece) ∷ others
+-- the row's first word is this one
+abbrev pub begins : Word → Row → Bool
+begins word [] = false
+begins word (w ∷ ws) = bytes_eq w word
 
--- the pieces that a separating byte leaves; a last piece without bytes is none
-abbrev pub pieces : ℕ → List ℕ → List (List ℕ)
-pieces separator [] = []
-pieces separator (b ∷ bs) = if b == separator then [] ∷ pieces separator bs else with_byte b (pieces separator bs)
+-- the row's words after the first
+abbrev pub after_first : Row → Row
+after_first [] = []
+after_first (w ∷ ws) = ws
 
--- there is at least one byte
-abbrev pub has_bytes : List ℕ → Bool
-has_bytes bytes = nat_lt 0 (length bytes)
+-- the line declares names
+abbrev pub declares : Row → Bool
+declares row = begins (codes ".inputs") row || begins (codes ".outputs") row || begins (codes ".internal") row || begins (codes ".dummy") row
 
--- the pieces between spaces (32) that have bytes
-abbrev pub words_of : List ℕ → Row
-words_of line = filter has_bytes (pieces 32 line)
+-- the line stands in the header
+abbrev pub is_header : Row → Bool
+is_header row = begins (codes ".model") row || begins (codes ".name") row || declares row
 
--- the words of each line, where a line ends at LF (10)
-abbrev pub rows_of : List ℕ → List Row
-rows_of text = map words_of (pieces 10 text)
+-- the word begins with a dot (46)
+abbrev pub begins_with_dot : Word → Bool
+begins_with_dot [] = false
+begins_with_dot (c ∷ cs) = c == 46
 
--- LF (10), and the bytes from space (32) to ~ (126) without # (35)
-abbrev pub may_stand : ℕ → Bool
-may_stand b = b == 10 || (is_between 32 126 b && not (b == 35))
+-- the line begins with a dot
+abbrev pub is_directive : Row → Bool
+is_directive [] = false
+is_directive (w ∷ ws) = begins_with_dot w
 
--- each byte of the text may stand in it
-abbrev pub is_plain : List ℕ → Bool
-is_plain text = list_all may_stand text
+-- the line has words and begins with no dot
+abbrev pub is_graph_row : Row → Bool
+is_graph_row [] = false
+is_graph_row (w ∷ ws) = not (begins_with_dot w)
 
--- what stands before the first separator and what stands after it
-abbrev pub cut : ℕ → List ℕ → Option (List ℕ × List ℕ)
-cut separator bytes = option_map (λ n. (take n bytes, drop (n + 1) bytes)) (position (λ b. b == separator) bytes)
+-- .graph stood on a line
+abbrev pub has_graph : List Row → Bool
+has_graph rows = list_any (begins (codes ".graph")) rows
+
+-- the lines before .graph
+abbrev pub header_rows : List Row → List Row
+header_rows [] = []
+header_rows (row ∷ rows) = if begins (codes ".graph") row then [] else row ∷ header_rows rows
+
+-- the lines after .graph
+abbrev pub rows_after_graph : List Row → List Row
+rows_after_graph [] = []
+rows_after_graph (row ∷ rows) = if begins (codes ".graph") row then rows else rows_after_graph rows
+
+-- the lines before .marking
+abbrev pub before_marking : List Row → List Row
+before_marking [] = []
+before_marking (row ∷ rows) = if begins (codes ".marking") row then [] else row ∷ before_marking rows
+
+-- the words after .marking, over all lines from there on
+abbrev pub words_of_marking : List Row → Option Row
+words_of_marking [] = None
+words_of_marking (row ∷ rows) = if begins (codes ".marking") row then Some (after_first row ++ flat_map (λ r. r) rows) else words_of_marking rows
+
+-- the lines of the graph
+abbrev pub graph_rows : List Row → List Row
+graph_rows rows = filter is_graph_row (before_marking (rows_after_graph rows))
+
+-- the words of the marking, where it has begun
+abbrev pub marking_words : List Row → Option Row
+marking_words rows = words_of_marking (rows_after_graph rows)

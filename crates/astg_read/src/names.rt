@@ -86,7 +86,7 @@ fn value(digits: &[u8]) -> u32
     n
 }
 
-fn number(word: &[u8]) -> Option<u32>
+pub fn number(word: &[u8]) -> Option<u32>
     ensures value { result ≡ names.number word.now }
     ensures within { IfSome result (λ n. n < 1000000000) }
 {

@@ -1,105 +1,90 @@
-//! The reader.
+//! Reads a text line by line.
 
-ghost use Rattle.std.specs.Prelude.{◌≡◌, length, Some, None, All, IfOk, IsErrOf, IsTrue};
-ghost use Rattle.stg_net.specs.declared.signal.Signal.{Signal};
-ghost use Rattle.stg_net.specs.declared.limits.TheConstants.Limits.{SPEC};
-ghost use Rattle.stg_net.specs.Building.{empty_building};
-ghost use Rattle.stg_net.specs.Names.{is_name};
-ghost use Rattle.stg_net.specs.Net.{IsWithin};
-ghost use Rattle.astg_read.specs.Built.{with_signals};
-ghost use Rattle.astg_read.specs.Found.{IsLinkOf};
-ghost use Rattle.astg_read.specs.Reading.{reading};
-ghost use Rattle.astg_read.specs.Reading as read;
-ghost use Rattle.astg_read.specs.Refusals.{refused, IsReadError};
-ghost use Rattle.astg_read.specs.Shown.{shown_sections};
+ghost use Rattle.std.specs.Prelude.{◌≡◌, ◌≤◌, ◌<◌, ◌^◌, length};
+ghost use Rattle.astg_lex.specs.Lines as all_lines;
+ghost use Rattle.astg_read.specs.Reading.{meaning_of, reading};
+ghost use Rattle.astg_read.specs.Reading as readings;
+ghost use Rattle.astg_read.specs.Taking.{Gives, IsKept, known_of, nothing};
+ghost use Rattle.std.specs.Prelude.{false, OnOk};
 
-use crate::ReadError;
-use crate::build::build;
-use crate::header::declare;
-use crate::links::{Link, all_links, all_marks};
-use crate::numbers::transitions;
-use crate::rows::{is_plain, rows_of};
-use crate::rule::REFUSED;
-use crate::sections::{Sections, sections_of};
-use crate::sound::{are_marks_of, stand_once};
+use crate::line_error::LineError;
+use crate::reader::Reader;
+use crate::{ReadError, Rule};
+use astg_lex::LexError;
 use std::alloc::Global;
-use stg_net::{Kind, Limits, NetBuilder, Spec};
+use stg_net::Limits;
 
-/// The specification of links and marks, where they may stand so.
-fn spec_in(
+fn line_ends(text: &[u8]) -> u32
+    requires { length text.now ≤ 16777216 }
+    ensures value { result ≡ all_lines.line_ends text.now }
+    ensures most { result ≤ length text.now }
+{
+    let mut count = 0;
+    for b in text {
+        if *b == b'\n' {
+            count += 1;
+        }
+    }
+    count
+}
+
+fn missing(reader: &Reader<'_>) -> Rule
+    ensures { result ≡ readings.missing (known_of reader.now).has_graph }
+{
+    if reader.has_graph {
+        Rule::NoEnd
+    } else {
+        Rule::NoGraph
+    }
+}
+
+/// Takes the lines of a text up to `.end`.
+pub fn read_lines<'a>(
     alloc: Global,
-    builder: NetBuilder,
-    links: &[Link],
-    marks: &[Link],
-) -> Result<Spec, ReadError>
-    requires start { builder ≡ with_signals (empty_building SPEC) builder.lists.signals }
-    requires names { All (λ (s : Signal). IsTrue (is_name s.name)) builder.lists.signals }
-    requires links { All (IsLinkOf (length builder.lists.signals)) links.now }
-    ensures accepted { IfOk result (λ s. read.spec_in builder.lists.signals links.now marks.now ≡ Some s) }
-    ensures refused { IsErrOf result refused → read.spec_in builder.lists.signals links.now marks.now ≡ None }
-    ensures only { IsReadError result }
-    ensures within { IfOk result (λ s. IsWithin SPEC s.net) }
+    reader: &mut Reader<'a>,
+    limits: &Limits,
+    text: &'a [u8],
+) -> Result<(), ReadError>
+    requires start { known_of reader.old ≡ nothing }
+    requires short { length text.now ≤ 16777216 }
+    requires within { length text.now ≤ limits.now.bytes }
+    requires small { limits.now.signals < 2 ^ 32 }
+    ensures gives { Gives (meaning_of (known_of reader.new)) result (reading false limits.now text.now) }
+    ensures kept { OnOk result (IsKept limits.now (known_of reader.new)) }
 {
-    if links.len() > Limits::SPEC.places as usize
-        || !stand_once(links)
-        || !are_marks_of(links, marks)
-    {
-        return Err(REFUSED);
-    }
-    let trans = transitions(alloc, links)?;
-    if trans.len() > Limits::SPEC.trans as usize {
-        return Err(REFUSED);
-    }
-    Ok(build(alloc, builder, trans.as_slice(), marks, links)?)
-}
-
-/// The specification of sections whose names are declared.
-fn read_graph(
-    alloc: Global,
-    builder: NetBuilder,
-    sections: &Sections<'_, '_>,
-) -> Result<Spec, ReadError>
-    requires start { builder ≡ with_signals (empty_building SPEC) builder.lists.signals }
-    requires names { All (λ (s : Signal). IsTrue (is_name s.name)) builder.lists.signals }
-    ensures accepted { IfOk result (λ s. read.with_declared (shown_sections sections.now) builder.lists.signals ≡ Some s) }
-    ensures refused { IsErrOf result refused → read.with_declared (shown_sections sections.now) builder.lists.signals ≡ None }
-    ensures only { IsReadError result }
-    ensures within { IfOk result (λ s. IsWithin SPEC s.net) }
-{
-    let Some(links) = all_links(alloc, &builder, sections.graph)? else {
-        return Err(REFUSED);
-    };
-    let Some(marks) = all_marks(alloc, &builder, sections.entries)? else {
-        return Err(REFUSED);
-    };
-    spec_in(alloc, builder, links.as_slice(), marks.as_slice())
-}
-
-fn read_sections(alloc: Global, sections: &Sections<'_, '_>) -> Result<Spec, ReadError>
-    ensures accepted { IfOk result (λ s. read.reading_of (shown_sections sections.now) ≡ Some s) }
-    ensures refused { IsErrOf result refused → read.reading_of (shown_sections sections.now) ≡ None }
-    ensures only { IsReadError result }
-    ensures within { IfOk result (λ s. IsWithin SPEC s.net) }
-{
-    let mut builder = NetBuilder::new(alloc, Limits::SPEC);
-    declare(&mut builder, Kind::Input, sections.inputs)?;
-    declare(&mut builder, Kind::Output, sections.outputs)?;
-    read_graph(alloc, builder, sections)
-}
-
-/// Reads a specification text.
-pub fn read_spec(alloc: Global, text: &[u8]) -> Result<Spec, ReadError>
-    ensures accepted { IfOk result (λ s. reading text.now ≡ Some s) }
-    ensures refused { IsErrOf result refused → reading text.now ≡ None }
-    ensures only { IsReadError result }
-    ensures within { IfOk result (λ s. IsWithin SPEC s.net) }
-{
-    if text.len() > Limits::SPEC.bytes as usize || !is_plain(text) {
-        return Err(REFUSED);
-    }
-    let rows = rows_of(alloc, text)?;
-    match sections_of(rows.as_slice()) {
-        Some(sections) => read_sections(alloc, &sections),
-        None => Err(REFUSED),
+    let mut lines = astg_lex::lines(alloc, text);
+    loop {
+        match lines.next_line() {
+            Ok(Some(line)) => {
+                let ends = reader.ends_text(line.words.as_slice());
+                match reader.take_line(limits, line.words.as_slice()) {
+                    Ok(()) => {
+                        if ends {
+                            return Ok(());
+                        }
+                    }
+                    Err(LineError::Broken(rule)) => {
+                        return Err(ReadError::Refused {
+                            rule,
+                            line: line.number,
+                        });
+                    }
+                    Err(LineError::NoMemory) => return Err(ReadError::NoMemory),
+                }
+            }
+            Ok(None) => {
+                return Err(ReadError::Refused {
+                    rule: missing(reader),
+                    line: line_ends(text) + 1,
+                });
+            }
+            Err(LexError::BadByte { line }) => {
+                return Err(ReadError::Refused {
+                    rule: Rule::BadByte,
+                    line,
+                });
+            }
+            Err(LexError::NoMemory) => return Err(ReadError::NoMemory),
+        }
     }
 }

@@ -1,10 +1,10 @@
 -- How a run ends whose text is accepted or refused.
-use Rattle.std.proofs.Common.{◌≡◌, ◌++◌, ◌<◌, ℕ, List, [], Option, None, Some, IsSome, IfSome, false, inl, inr, ap, sym, ◌∙◌, append-nil, subst, length, ◌≤◌, arith}
+use Rattle.std.proofs.Common.{◌≡◌, ◌++◌, ◌<◌, ℕ, List, [], Option, None, Some, IsSome, IfSome, inl, inr, ap, ◌∙◌, append-nil, subst, length, arith}
 use Rattle.std.specs.Option.{option_map}
 use Rattle.std.proofs.lemmas.Bool.{false≢true}
 use Rattle.desij.specs.Outside.{SeenSource, named}
 use Rattle.desij.specs.Reading.{ReadsUpTo, ReadsWhole}
-use Rattle.desij.specs.Answering.{HasAnswer, IsRefusedBy}
+use Rattle.desij.specs.Answering.{HasAnswer}
 use Rattle.stg_decomp.specs.declared.part.Part.{Part}
 use Rattle.desij.proofs.AnswerLemmas.{stands_short}
 use Rattle.desij.specs.Ends.{Ends, EndsRefusal, Finishes}

@@ -1,10 +1,11 @@
 -- The words and the answer of worked texts, computed.
-use Rattle.std.proofs.Common.{◌≡◌, ℕ, List, [], ◌∷◌, ◌++◌, Option, None, Some, refl, codes, map}
+use Rattle.std.proofs.Common.{◌≡◌, ℕ, List, [], ◌∷◌, ◌++◌, Option, None, Some, Result, Ok, Err, false, refl, codes, map}
 use Rattle.std.specs.Fmt.{digits}
 use Rattle.std.specs.Option.{option_map}
 use Rattle.astg_write.specs.ComponentText.{component_text}
-use Rattle.stg_net.specs.Spec.{SpecLists}
-use Rattle.astg_read.specs.Reading.{reading}
+use Rattle.stg_net.specs.declared.limits.TheConstants.Limits.{SPEC}
+use Rattle.astg_read.specs.declared.rule.Rule.TheVariants.{NoGraph}
+use Rattle.astg_read.specs.Reading.{Meaning, Fault, reading}
 use Rattle.stg_partition.specs.declared.group.Group.{Group}
 use Rattle.stg_decomp.specs.declared.part.Part.{Part}
 use Rattle.stg_decomp.specs.Parts.{parts_of}
@@ -31,17 +32,18 @@ c_element = codes ".model c\n"
 abbrev groups : List Group
 groups = record { own = 2 ∷ []; known = 0 ∷ 1 ∷ 2 ∷ [] } ∷ []
 
--- the parts of these groups of the text's specification
-abbrev parts_in : List ℕ → Option (List Part)
-parts_in text = option_map (λ (s : SpecLists). parts_of s.net groups) (reading text)
+-- the parts of these groups of what the text stands for
+abbrev parts_in : Result Meaning Fault → Option (List Part)
+parts_in (Ok m) = Some (parts_of m.lists groups)
+parts_in (Err f) = None
 
 -- what is printed for the C-element
-c_element-printed : option_map printed (parts_in c_element) ≡ Some (codes "part 1 own 1 inputs 2 transitions 6 places 8 restored 0\n" ++ codes "done 1\n")
+c_element-printed : option_map printed (parts_in (reading false SPEC c_element)) ≡ Some (codes "part 1 own 1 inputs 2 transitions 6 places 8 restored 0\n" ++ codes "done 1\n")
 unfolding digits count_text signal_counts net_sizes part_line
 c_element-printed = refl
 
 -- the one file of the C-element
-c_element-file : option_map (λ parts. part_bytes parts 0) (parts_in c_element) ≡ Some (
+c_element-file : option_map (λ parts. part_bytes parts 0) (parts_in (reading false SPEC c_element)) ≡ Some (
     codes ".model part1\n"
     ++ codes ".inputs a b\n"
     ++ codes ".outputs c\n"
@@ -76,5 +78,5 @@ named_files : map file_of ((codes "decompose" ∷ codes "a.g" ∷ []) ∷ (codes
 named_files = refl
 
 -- no bytes stand for no specification
-no_lines : reading [] ≡ None
+no_lines : reading false SPEC [] ≡ Err (record { rule = NoGraph; line = 1 })
 no_lines = refl

@@ -1,5 +1,5 @@
 -- What the end of a run tells of its status.
-use Rattle.std.proofs.Common.{◌≡◌, ℕ, false, true, ◌≤◌, ◌<◌, ◌⊎◌, List, [], ◌++◌, Option, None, Some, IsSome, IsSomeAnd, IfSome, inl, inr, refl, sym, ap, ◌∙◌, subst, zero, suc, ◌+◌, length, length-append, arith, append-nil}
+use Rattle.std.proofs.Common.{◌≡◌, ℕ, ◌≤◌, ◌<◌, ◌⊎◌, List, [], ◌++◌, Option, None, Some, IsSome, IsSomeAnd, IfSome, inl, inr, refl, sym, ap, ◌∙◌, subst, zero, suc, ◌+◌, length, length-append, arith, append-nil}
 use Rattle.std.specs.Option.{option_map}
 use Rattle.std.proofs.lemmas.Bool.{false≢true}
 use Rattle.std.specs.FinMap.{insert}

@@ -1,51 +1,44 @@
 -- The answer to a text: its parts, or the line that refuses it.
-use Rattle.std.specs.Prelude.{◌≡◌, ◌⊎◌, ℕ, ◌+◌, List, ◌∷◌, [], ◌++◌, None, Some, codes}
+use Rattle.std.specs.Prelude.{◌≡◌, ◌⊎◌, ℕ, ◌+◌, List, ◌∷◌, [], ◌++◌, codes}
+use Rattle.stg_net.specs.declared.limits.TheConstants.Limits.{SPEC}
 use Rattle.stg_net.specs.Initial.{graph_of}
 use Rattle.stg_net.specs.Spec.{SpecLists}
-use Rattle.stg_net.specs.Words.{trans_word, place_word_at}
+use Rattle.stg_net.specs.PlaceWords.{place_word}
+use Rattle.stg_net.specs.Words.{trans_word}
 use Rattle.stg_laws.specs.Conflict.{HasNoAutoConflict}
 use Rattle.stg_laws.specs.Faithful.{AreComponents}
 use Rattle.stg_conflict.specs.declared.clash.Clash.{Clash}
 use Rattle.stg_conflict.specs.Clash.{IsLeastClash}
 use Rattle.astg_read.specs.declared.rule.Rule.{Rule}
-use Rattle.astg_read.specs.declared.rule.Rule.TheVariants.{NotBuilt}
-use Rattle.astg_read.specs.Reading.{reading}
+use Rattle.astg_read.specs.Standing.{StandsFor, IsUnread}
 use Rattle.astg_write.specs.ComponentText.{component_text}
 use Rattle.stg_decomp.specs.declared.part.Part.{Part}
 use Rattle.stg_decomp.specs.Parts.{AreParts, part_at, nets_of}
 use Rattle.desij.specs.Printing.{refusal}
 
--- the text stands for the specification
-abbrev pub StandsFor : List ℕ → SpecLists → Type 0
-StandsFor text spec = reading text ≡ Some spec
-
--- the text stands for none: its first bad line is this one, and breaks this rule
-abbrev pub IsUnread : List ℕ → Rule → ℕ → Type 0
-IsUnread text rule line = (reading text ≡ None) × (rule ≡ NotBuilt) × (line ≡ 0)
-
 -- The text stands for a specification without structural auto-conflicts, of which these are the parts. Their nets are components of it: each is faithful to it, and together they are a correct decomposition of it, where it is deterministic.
 pub record HasAnswer (text : List ℕ) (parts : List Part) : Type 0 where
   pub spec : SpecLists
-  pub stands : StandsFor text spec
+  pub stands : StandsFor SPEC text spec
   pub no_clash : HasNoAutoConflict (graph_of spec.net)
   pub made : AreParts spec.net parts
   pub components : AreComponents spec.net (nets_of parts)
 
 -- the line that tells a clash: both transitions and the place
 abbrev pub clash_line : SpecLists → Clash → List ℕ
-clash_line s c = codes "refused Clash " ++ trans_word s.net.signals s.net.trans c.t1 ++ 32 ∷ trans_word s.net.signals s.net.trans c.t2 ++ 32 ∷ place_word_at s c.place ++ 10 ∷ []
+clash_line s c = codes "refused Clash " ++ trans_word s.net.signals s.net.trans c.t1 ++ 32 ∷ trans_word s.net.signals s.net.trans c.t2 ++ 32 ∷ place_word s c.place ++ 10 ∷ []
 
--- the reader refuses the text by this line
+-- the text's first bad line and the first rule that it breaks are told by this line
 pub record IsRefusedByRule (text line : List ℕ) : Type 0 where
   pub rule : Rule
   pub number : ℕ
-  pub unread : IsUnread text rule number
+  pub unread : IsUnread SPEC text rule number
   pub told : line ≡ refusal rule number
 
 -- the text stands for a specification with a structural auto-conflict, and this line tells the least one
 pub record IsRefusedByClash (text line : List ℕ) : Type 0 where
   pub spec : SpecLists
-  pub stands : StandsFor text spec
+  pub stands : StandsFor SPEC text spec
   pub clash : Clash
   pub least : IsLeastClash (graph_of spec.net) clash
   pub told : line ≡ clash_line spec clash
@@ -62,7 +55,7 @@ pub record IsRefusable (text : List ℕ) : Type 0 where
 -- the text stands for a specification without structural auto-conflicts
 pub record IsAcceptable (text : List ℕ) : Type 0 where
   pub spec : SpecLists
-  pub stands : StandsFor text spec
+  pub stands : StandsFor SPEC text spec
   pub no_clash : HasNoAutoConflict (graph_of spec.net)
 
 -- the text of the k-th part

@@ -1,11 +1,13 @@
 -- What a run of the program does, for each status with which it ends.
-use Rattle.std.specs.Prelude.{◌≡◌, ℕ, ◌≤◌, ◌<◌, ◌⊎◌, List, length, Option, None, Some, IsSome, IsSomeAnd, option_and_then}
+use Rattle.std.specs.Prelude.{◌≡◌, ℕ, ◌≤◌, ◌<◌, ◌⊎◌, List, length, Option, None, Some, IsSomeAnd, option_and_then}
 use Rattle.std.specs.Io.KnownBytes.{append_known}
 use Rattle.std.specs.Option.{option_map}
+use Rattle.stg_net.specs.declared.limits.TheConstants.Limits.{SPEC}
 use Rattle.stg_net.specs.Net.{NetLists}
+use Rattle.astg_read.specs.Standing.{StandsFor}
 use Rattle.stg_net.specs.Spec.{SpecLists}
 use Rattle.stg_laws.specs.Faithful.{AreComponents}
-use Rattle.desij.specs.Answering.{StandsFor, HasAnswer, IsRefusedBy, IsRefusable, IsAcceptable}
+use Rattle.desij.specs.Answering.{HasAnswer, IsRefusedBy, IsRefusable, IsAcceptable}
 use Rattle.desij.specs.Files.{FailsAt, HasParts, with_nets}
 use Rattle.desij.specs.Outside.{SeenSource, SeenShelf, SeenSink, Rose, named}
 use Rattle.desij.specs.Printing.{IsFrontPrinted, printed}
@@ -84,7 +86,7 @@ pub record WritesComponents (name : List ℕ) (old new : Seen) : Type 0 where
   pub text : List ℕ
   pub read : ReadsWhole name text old.source new.source
   pub spec : SpecLists
-  pub stands : StandsFor text spec
+  pub stands : StandsFor SPEC text spec
   pub nets : List NetLists
   pub put : new.shelf.files ≡ option_map (with_nets nets (length nets)) old.shelf.files
   pub components : AreComponents spec.net nets

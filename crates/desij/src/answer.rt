@@ -6,7 +6,8 @@ ghost use Rattle.stg_net.specs.Net.{IsWithin};
 ghost use Rattle.stg_conflict.specs.Clash.{IsLeastClash};
 ghost use Rattle.stg_decomp.specs.declared.part.Part.{Part};
 ghost use Rattle.astg_write.specs.Writable.{IsWritable};
-ghost use Rattle.desij.specs.Answering.{StandsFor, IsUnread, HasAnswer};
+ghost use Rattle.astg_read.specs.Standing.{StandsFor, IsUnread};
+ghost use Rattle.desij.specs.Answering.{HasAnswer};
 ghost use Rattle.desij.specs.Unmade.{IsTold};
 
 use crate::printing::{clash_text, refusal_text};
@@ -35,7 +36,7 @@ impl From<NoMemory> for Unmade {
 
 // Refuses the text by the rule that its first bad line breaks.
 fn refuse_by_rule(alloc: Global, text: &[u8], rule: Rule, line: u32) -> Unmade
-    requires { IsUnread text.now rule line }
+    requires { IsUnread Limits.SPEC text.now rule line }
     ensures { IsTold text.now result }
 {
     match refusal_text(alloc, rule, line) {
@@ -46,7 +47,7 @@ fn refuse_by_rule(alloc: Global, text: &[u8], rule: Rule, line: u32) -> Unmade
 
 // Refuses the text by the least structural auto-conflict of its specification.
 fn refuse_by_clash(alloc: Global, text: &[u8], spec: &Spec, clash: Clash) -> Unmade
-    requires stands { StandsFor text.now spec.now }
+    requires stands { StandsFor Limits.SPEC text.now spec.now }
     requires least { IsLeastClash (graph_of spec.now.net) clash }
     ensures { IsTold text.now result }
 {
@@ -58,7 +59,7 @@ fn refuse_by_clash(alloc: Global, text: &[u8], spec: &Spec, clash: Clash) -> Unm
 
 // Makes the parts of the specification that the text stands for.
 fn answer_of(alloc: Global, text: &[u8], spec: &Spec) -> Result<Answer, Unmade>
-    requires stands { StandsFor text.now spec.now }
+    requires stands { StandsFor Limits.SPEC text.now spec.now }
     requires within { IsWithin Limits.SPEC spec.now.net }
     ensures answer { IfOk result (λ a. HasAnswer text.now a.parts) }
     ensures few { IfOk result (λ a. length a.parts ≤ 250) }

@@ -1,14 +1,13 @@
 -- The plain groups share out the signals that a specification drives.
-use Rattle.std.proofs.Common.{◌≡◌, ◌≢◌, ◌==◌, ◌||◌, ℕ, zero, suc, ◌+◌, ◌<◌, ◌≤◌, List, [], ◌∷◌, length, get_or, All, Any, AllPairs, Contains, slice_index, Bool, true, false, nat_lt, cond, refl, sym, ◌∙◌, ap, subst, inl, inr, arith, eq-eqb}
-use Rattle.std.specs.List.{range_with_len, list_any}
+use Rattle.std.proofs.Common.{◌≡◌, ◌==◌, ℕ, zero, suc, ◌<◌, ◌≤◌, List, [], length, get_or, Contains, slice_index, true, refl, sym, ◌∙◌, ap, subst, inl, inr, arith, eq-eqb}
 use Rattle.std.specs.List.Sorted.{IsStrictlyIncreasing}
-use Rattle.std.proofs.lemmas.Bool.{cases_order, lt-ltb, eqb-true}
+use Rattle.std.proofs.lemmas.Bool.{cases_order, eqb-true}
 use Rattle.std.proofs.lemmas.List.{get_or_default}
 use Rattle.std.proofs.lemmas.List.Folds.{list_any_at, Any-from_list_any}
 use Rattle.std.proofs.lemmas.List.Kept.{AllPairs-from_increasing}
 use Rattle.stg_net.specs.Component.{is_one_of}
 use Rattle.stg_net.specs.Net.{NetLists}
-use Rattle.stg_laws.specs.Groups.{least_own, IsPlainGroup, AreJoined}
+use Rattle.stg_laws.specs.Groups.{least_own, AreJoined}
 use Rattle.stg_laws.specs.Stgs.{is_driven}
 use Rattle.stg_laws.proofs.Declaring.{Declares}
 use Rattle.stg_partition.specs.declared.group.Group.{Group}

@@ -1,5 +1,5 @@
 -- The parts of plain groups are faithful components, and a correct decomposition of the specification where it is deterministic.
-use Rattle.std.proofs.Common.{◌≡◌, ◌≢◌, ◌==◌, ℕ, ◌<◌, ◌≤◌, zero-add, List, [], ◌∷◌, map, length, get_or, All, Bool, true, false, nat_lt, cond, refl, sym, ◌∙◌, ap, subst, eq-eqb, arith}
+use Rattle.std.proofs.Common.{◌≡◌, ◌≢◌, ◌==◌, ℕ, ◌<◌, ◌≤◌, zero-add, List, [], map, length, get_or, All, true, cond, sym, ◌∙◌, ap, subst, eq-eqb, arith}
 use Rattle.std.specs.List.{range_with_len}
 use Rattle.std.proofs.lemmas.Bool.{lt-ltb}
 use Rattle.std.proofs.lemmas.List.{length-map, get_or-map as get_or-map_in}

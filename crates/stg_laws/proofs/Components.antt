@@ -1,8 +1,7 @@
 -- Nets as components: full names tell their transitions apart, and a net that knows every signal of the specification is faithful to it.
-use Rattle.std.proofs.Common.{◌≡◌, ◌↔◌, ℕ, zero-add, ◌+◌, ◌<◌, List, [], map, length, get_or, Bool, true, false, cond, Some, IsTrue, refl, sym, ◌∙◌, ap, subst, arith, inl, inr}
-use Rattle.std.specs.List.{range_with_len, list_any, enumerate_from}
-use Rattle.std.specs.Str.{bytes_eq}
-use Rattle.std.proofs.lemmas.Bool.{cases_Bool, false≢true}
+use Rattle.std.proofs.Common.{◌≡◌, ◌↔◌, ℕ, zero-add, ◌<◌, List, [], map, length, get_or, Bool, true, false, cond, Some, IsTrue, refl, sym, ◌∙◌, ap, subst, arith}
+use Rattle.std.specs.List.{range_with_len, enumerate_from}
+use Rattle.std.proofs.lemmas.Bool.{false≢true}
 use Rattle.std.proofs.lemmas.List.{length-map, get_or-map as get_or-map_in}
 use Rattle.std.proofs.lemmas.List.FromFn.{length-enumerate_from, get_or-enumerate_from}
 use Rattle.stg_net.specs.declared.signal.Kind.{Kind}
@@ -10,21 +9,21 @@ use Rattle.stg_net.specs.declared.signal.Kind.TheVariants.{Input, Output, Intern
 use Rattle.stg_net.specs.declared.signal.Signal.{Signal}
 use Rattle.stg_net.specs.declared.trans.TransName.{TransName}
 use Rattle.stg_net.specs.Net.{NetLists, IsNet, signal_at, is_kind}
-use Rattle.stg_net.specs.Graph.{Graph, FullName, IsTrans, IsKnown, full_name_at, is_among, has_signal_of}
+use Rattle.stg_net.specs.Graph.{FullName, is_among}
 use Rattle.stg_net.specs.Initial.{place_of, full_name, graph_of}
 use Rattle.stg_net.specs.Component.{is_one_of, shared_kind, kind_shown, shown, component}
 use Rattle.stg_net.specs.Ordered.{signal_order, new_number, ordered}
-use Rattle.stg_net.proofs.Orders.{signal_order-IsOrder, length-order, order_below, new_number-below}
+use Rattle.stg_net.proofs.Orders.{signal_order-IsOrder, order_below, new_number-below}
 use Rattle.stg_net.proofs.Shown.{length-shown, shown-names, component-IsNet}
 use Rattle.stg_laws.specs.Deterministic.{HasNoDummy}
 use Rattle.stg_laws.specs.Faithful.{IsFaithful}
 use Rattle.stg_laws.specs.Laws.{DriveTheSame}
-use Rattle.stg_laws.specs.Stgs.{Stg, HasDistinctNames, IsStg, stg_of, is_driven, names_where, knows, drives, IsInternal}
+use Rattle.stg_laws.specs.Stgs.{HasDistinctNames, IsStg, stg_of, is_driven, names_where}
 use Rattle.stg_laws.proofs.Cuts.{AllKnown}
 use Rattle.stg_laws.proofs.Declaring.{Declares, declared, found, same_place}
 use Rattle.stg_laws.proofs.Deriving.{derivation_is_faithful}
 use Rattle.stg_laws.proofs.Keeping.{Keeps}
-use Rattle.stg_laws.proofs.Nets.{no_signal, signal_name-at, signal_names, trans_at, full_name_at-net, live_below}
+use Rattle.stg_laws.proofs.Nets.{no_signal, signal_name-at, trans_at, full_name_at-net, live_below}
 use Rattle.stg_laws.proofs.Ordering.{order_renumbers, same_signal}
 use Rattle.stg_laws.proofs.Renumbering.{renumbered_keeps, renumbered_no_dummy}
 use Rattle.stg_laws.proofs.Wiring.{is_any, net_knows, net_known, ShowsGroup}

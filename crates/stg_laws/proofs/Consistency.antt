@@ -1,12 +1,12 @@
 -- A consistent graph without structural auto-conflicts is deterministic.
-use Rattle.std.proofs.Common.{◌≡◌, ℕ, ◌<◌, List, [], ◌∷◌, ◌++◌, map, Some, refl, sym, ◌∙◌, ap, inl, inr, true, arith}
+use Rattle.std.proofs.Common.{◌≡◌, ℕ, List, [], ◌∷◌, ◌++◌, map, Some, refl, sym, ◌∙◌, ap, inl, inr, true, arith}
 use Rattle.std.proofs.lemmas.Bool.{cases_lt}
 use Rattle.std.proofs.lemmas.List.{map-append}
 use Rattle.std.proofs.lemmas.Slice.Eq.{bytes_eq-Decides}
 use Rattle.stg_net.specs.declared.trans.Edge.{Edge}
 use Rattle.stg_net.specs.Graph.{Graph, FullName, full_name_at, is_among, tokens_at, takes}
 use Rattle.stg_net.specs.Run.{IsEnabled, fired, reached}
-use Rattle.stg_laws.specs.Cuts.{Label, label_of, cut}
+use Rattle.stg_laws.specs.Cuts.{Label, cut}
 use Rattle.stg_laws.specs.Deterministic.{HasNoDummy, IsClean, IsDeterministic}
 use Rattle.stg_laws.specs.Conflict.{HasNoAutoConflict}
 use Rattle.stg_laws.specs.Consistent.{edges_of, Alternates, IsConsistent, HasNoToggle}

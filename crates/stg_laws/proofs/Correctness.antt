@@ -1,9 +1,9 @@
 -- Components that are wired and faithful are a correct decomposition of a deterministic specification.
-use Rattle.std.proofs.Common.{◌≡◌, ℕ, ◌<◌, ◌≤◌, ◌⊎◌, List, [], ◌∷◌, ◌++◌, length, Some, true, false, refl, sym, ◌∙◌, ap, inl, inr, arith}
+use Rattle.std.proofs.Common.{◌≡◌, ℕ, ◌<◌, ◌≤◌, ◌⊎◌, List, [], ◌∷◌, ◌++◌, length, true, false, refl, sym, ◌∙◌, ap, inl, inr, arith}
 use Rattle.std.proofs.lemmas.Bool.{cases_lt, cases_eq, cases_Bool, false≢true, false_from_ne_true}
-use Rattle.stg_net.specs.Graph.{Graph, FullName, full_name_at, is_among, tokens_at}
+use Rattle.stg_net.specs.Graph.{Graph, FullName, is_among, tokens_at}
 use Rattle.stg_net.specs.Run.{Marking, IsEnabled, IsRun, fired, reached}
-use Rattle.stg_laws.specs.Cuts.{Label, label_of, names_of, cut}
+use Rattle.stg_laws.specs.Cuts.{Label, names_of, cut}
 use Rattle.stg_laws.specs.Deterministic.{IsDeterministic}
 use Rattle.stg_laws.specs.Stgs.{Stg, IsStg, stg_at, knows, drives}
 use Rattle.stg_laws.specs.Joint.{JointMarking, HasLabel, Moves, Reaches, AreRelated, IsJointStep, CanStep, StepsTo, MovesTo}

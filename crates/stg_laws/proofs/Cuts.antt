@@ -1,11 +1,11 @@
 -- Cuts of runs one after another, cuts to lists that have the same signals, and traces.
-use Rattle.std.proofs.Common.{◌≡◌, ℕ, List, [], ◌∷◌, ◌++◌, append-nil, map, true, false, Option, Some, None, IsTrue, refl, sym, ◌∙◌, ap, inl, inr}
+use Rattle.std.proofs.Common.{◌≡◌, ℕ, List, [], ◌∷◌, ◌++◌, append-nil, true, false, Option, Some, None, refl, ◌∙◌, ap, inl, inr}
 use Rattle.std.proofs.lemmas.Bool.{cases_Bool}
 use Rattle.std.proofs.lemmas.List.Elements.{filter_agree, filter-append, filter_map-append}
 use Rattle.stg_net.specs.Graph.{Graph, FullName, IsTrans, IsKnown, full_name_at, is_among, has_signal_of}
 use Rattle.stg_laws.specs.Cuts.{names_of, shown, cut}
 use Rattle.stg_laws.specs.Deterministic.{HasNoDummy}
-use Rattle.stg_laws.proofs.Names.{Named, named, AreLive}
+use Rattle.stg_laws.proofs.Names.{named, AreLive}
 
 -- lists of signals that have the same signals
 abbrev pub SameSignals : List (List ℕ) → List (List ℕ) → Type 0

@@ -1,14 +1,11 @@
 -- Which signals a net knows and drives, told by their numbers.
-use Rattle.std.proofs.Common.{◌≡◌, ◌≢◌, ℕ, zero, suc, ◌+◌, ◌<◌, ◌==◌, List, [], ◌∷◌, map, filter, length, get_or, AllPairs, Bool, true, false, cond, ◌||◌, ◌&&◌, IsTrue, refl, sym, ◌∙◌, ap, subst, inl, inr, arith}
-use Rattle.std.specs.List.{list_any, enumerate_from}
-use Rattle.std.specs.List.Sorted.{IsPermutation}
+use Rattle.std.proofs.Common.{◌≡◌, ◌≢◌, ℕ, zero, suc, ◌<◌, List, [], ◌∷◌, map, filter, length, get_or, AllPairs, Bool, true, false, cond, ◌||◌, IsTrue, refl, sym, ◌∙◌, ap, inl, inr, arith}
 use Rattle.std.specs.Str.{bytes_eq}
-use Rattle.std.proofs.lemmas.Bool.{cases_Bool, cases_order, false≢true}
+use Rattle.std.proofs.lemmas.Bool.{cases_order, false≢true}
 use Rattle.std.proofs.lemmas.Slice.Eq.{bytes_eq-Decides}
 use Rattle.stg_net.specs.declared.signal.Kind.{Kind}
-use Rattle.stg_net.specs.declared.signal.Kind.TheVariants.{Input, Output, Internal}
 use Rattle.stg_net.specs.declared.signal.Signal.{Signal}
-use Rattle.stg_net.specs.Net.{NetLists, IsNet, signal_at, is_kind}
+use Rattle.stg_net.specs.Net.{NetLists, IsNet, signal_at}
 use Rattle.stg_net.specs.Graph.{is_among}
 use Rattle.stg_laws.specs.Stgs.{names_where}
 

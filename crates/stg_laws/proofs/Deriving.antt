@@ -1,14 +1,14 @@
 -- A graph that safe steps lead to, from the specification with a closed group's signals known, is a faithful component.
-use Rattle.std.proofs.Common.{◌≡◌, ◌<◌, ◌↔◌, ℕ, List, [], ◌∷◌, ◌++◌, Some, IsTrue, map, true, false, refl, sym, ◌∙◌, ap, inl, inr, arith}
+use Rattle.std.proofs.Common.{◌≡◌, ◌↔◌, ℕ, List, [], ◌∷◌, ◌++◌, Some, IsTrue, map, true, false, refl, sym, ◌∙◌, ap, inl, inr, arith}
 use Rattle.std.proofs.lemmas.Bool.{cases_lt, cases_Bool}
-use Rattle.stg_net.specs.Graph.{Graph, FullName, IsTrans, full_name_at, is_among, has_signal_of, tokens_at, takes}
+use Rattle.stg_net.specs.Graph.{Graph, FullName, full_name_at, is_among, has_signal_of, tokens_at, takes}
 use Rattle.stg_net.specs.Run.{Marking, IsEnabled, IsRun, IsRunFrom, fired, reached, reached_from}
 use Rattle.stg_laws.specs.Closed.{IsClosed}
 use Rattle.stg_laws.specs.Cuts.{Label, label_of, names_of, cut, IsNamedRun, IsCutOfRun, IsTraceOfRun, IsNameList, IsTrace}
-use Rattle.stg_laws.specs.Deterministic.{IsClean, IsDeterministic, HasNoDummy}
+use Rattle.stg_laws.specs.Deterministic.{IsClean, HasNoDummy}
 use Rattle.stg_laws.specs.Faithful.{CanFire, IsFaithful}
 use Rattle.stg_laws.specs.Stgs.{Stg, HasDistinctNames, drives}
-use Rattle.stg_laws.proofs.Cuts.{SameSignals, AllKnown, all_known, names-cut, cut-agree}
+use Rattle.stg_laws.proofs.Cuts.{AllKnown, all_known, names-cut, cut-agree}
 use Rattle.stg_laws.proofs.Inputs.{cut_tells_inputs}
 use Rattle.stg_laws.proofs.Keeping.{Keeps}
 use Rattle.stg_laws.proofs.Names.{Named, named, live_run, names_last}

@@ -1,16 +1,16 @@
 -- The definitions of meaning computed on the C-element's net.
-use Rattle.std.proofs.Common.{◌≡◌, ℕ, ◌+◌, ◌-◌, ◌*◌, zero, suc, List, [], ◌∷◌, Some, None, true, false, refl, sym, ◌∙◌, ap, codes, slice_index, get_or, arith}
+use Rattle.std.proofs.Common.{◌≡◌, ℕ, ◌+◌, ◌-◌, ◌*◌, zero, suc, List, [], ◌∷◌, Some, true, false, refl, sym, ◌∙◌, ap, codes, slice_index}
 use Rattle.std.proofs.lemmas.Bool.{false≢true}
 use Rattle.stg_net.specs.declared.arc.NetArc.{NetArc}
 use Rattle.stg_net.specs.declared.signal.Kind.TheVariants.{Input, Output}
 use Rattle.stg_net.specs.declared.trans.Edge.{Edge}
 use Rattle.stg_net.specs.declared.trans.Edge.TheVariants.{Rise, Fall, Toggle}
 use Rattle.stg_net.specs.declared.trans.TransName.{TransName}
-use Rattle.stg_net.specs.Graph.{Graph, FullName, full_name_at, is_among}
+use Rattle.stg_net.specs.Graph.{Graph, FullName, full_name_at}
 use Rattle.stg_net.specs.Initial.{graph_of}
 use Rattle.stg_net.specs.Net.{NetLists}
 use Rattle.stg_laws.specs.Cuts.{Label, label_of, cut, trace}
-use Rattle.stg_laws.specs.Deterministic.{AreRivals, IsClean, HasNoDummy, IsDeterministic}
+use Rattle.stg_laws.specs.Deterministic.{IsClean, HasNoDummy, IsDeterministic}
 use Rattle.stg_laws.specs.Stgs.{stg_of}
 
 abbrev named : ℕ → Edge → TransName

@@ -1,7 +1,6 @@
 -- The graph of a net: its tokens and weights, its names, and that it knows all its transitions.
-use Rattle.std.proofs.Common.{◌≡◌, ◌≢◌, ℕ, ◌+◌, ◌<◌, ◌≤◌, zero-add, List, [], ◌∷◌, map, filter, length, get_or, All, AllPairs, Bool, true, false, cond, Option, Some, None, is_some, IsTrue, slice_index, refl, sym, ◌∙◌, ap, inl, inr, arith}
-use Rattle.std.specs.List.{range_with_len}
-use Rattle.std.proofs.lemmas.Bool.{cases_lt, cases_order, false≢true}
+use Rattle.std.proofs.Common.{◌≡◌, ℕ, ◌<◌, ◌≤◌, zero-add, List, [], map, length, get_or, true, false, Some, None, is_some, slice_index, sym, ◌∙◌, ap, inl, inr, arith}
+use Rattle.std.proofs.lemmas.Bool.{cases_lt, false≢true}
 use Rattle.std.proofs.lemmas.List.{get_or_past, get_or-map as get_or-map_in, length-map}
 use Rattle.std.proofs.lemmas.List.FromFn.{fill_by_all, get_or-map-range_with_len, length-map-range_with_len}
 use Rattle.std.proofs.Math.ListN.{get_or-map}
@@ -9,8 +8,8 @@ use Rattle.stg_net.specs.declared.signal.Kind.TheVariants.{Input}
 use Rattle.stg_net.specs.declared.signal.Signal.{Signal}
 use Rattle.stg_net.specs.declared.trans.Edge.TheVariants.{Rise}
 use Rattle.stg_net.specs.declared.trans.TransName.{TransName}
-use Rattle.stg_net.specs.Net.{NetLists, IsNet, signal_at}
-use Rattle.stg_net.specs.Graph.{Graph, FullName, Place, IsTrans, place_at, full_name_at, tokens_in, taken_by, given_by, tokens_at, takes, gives}
+use Rattle.stg_net.specs.Net.{NetLists, signal_at}
+use Rattle.stg_net.specs.Graph.{IsTrans, place_at, full_name_at, tokens_in, taken_by, given_by, tokens_at, takes, gives}
 use Rattle.stg_net.specs.Initial.{weight_of, place_of, full_name, graph_of}
 
 -- the names of the signals, in order

@@ -1,9 +1,8 @@
 -- A net in order is the same graph with other numbers.
-use Rattle.std.proofs.Common.{◌≡◌, ℕ, zero, suc, ◌+◌, ◌<◌, ◌≤◌, ◌==◌, ◌&&◌, zero-add, add-zero, List, [], ◌∷◌, ◌++◌, map, filter, length, get_or, AllPairs, ◌≢◌, Bool, true, false, cond, nat_lt, Option, Some, None, slice_index, refl, sym, ◌∙◌, ap, subst, inl, inr, eq-eqb, arith}
-use Rattle.std.specs.List.{range_with_len, list_any, sum_by}
-use Rattle.std.specs.List.Sorted.{IsPermutation}
+use Rattle.std.proofs.Common.{◌≡◌, ℕ, zero, suc, ◌<◌, ◌≤◌, ◌==◌, ◌&&◌, List, [], ◌∷◌, map, length, get_or, AllPairs, ◌≢◌, Bool, true, false, cond, Some, slice_index, refl, sym, ◌∙◌, ap, subst, inl, inr, eq-eqb, arith}
+use Rattle.std.specs.List.{range_with_len}
 use Rattle.std.specs.Str.{bytes_eq}
-use Rattle.std.proofs.lemmas.Bool.{cases_lt, cases_eq, cases_Bool, ne_eqb, le-ltb, lt-ltb, eqb-true}
+use Rattle.std.proofs.lemmas.Bool.{cases_lt, cases_eq, ne_eqb, eqb-true}
 use Rattle.std.proofs.lemmas.List.{get_or_past, get_or_default, get_or-map as get_or-map_in, length-map}
 use Rattle.std.proofs.lemmas.List.Sorted.{IsPermutation-map, list_any-IsPermutation}
 use Rattle.std.proofs.lemmas.List.Sums.{sum_by-cons, sum_by-append}
@@ -11,7 +10,7 @@ use Rattle.stg_net.specs.declared.signal.Signal.{Signal}
 use Rattle.stg_net.specs.declared.trans.TransName.{TransName}
 use Rattle.stg_net.specs.declared.arc.NetArc.{NetArc}
 use Rattle.stg_net.specs.Net.{NetLists, IsNet, signal_at}
-use Rattle.stg_net.specs.Graph.{Graph, FullName, IsPlace, IsTrans, is_among, full_name_at, place_at, tokens_in, taken_by, given_by, tokens_at, takes, gives}
+use Rattle.stg_net.specs.Graph.{IsPlace, IsTrans, is_among, full_name_at, place_at, tokens_in, taken_by, given_by, tokens_at, takes, gives}
 use Rattle.stg_net.specs.Initial.{weight_of, goes, joins, full_name, graph_of}
 use Rattle.stg_net.specs.Ordered.{listed_below, signal_order, place_order, new_number, with_signal_number, with_place_number, arcs_at, arcs_moved, ordered}
 use Rattle.std.proofs.lemmas.List.FromFn.{length-range_with_len, get_or-range_with_len}
@@ -20,7 +19,7 @@ use Rattle.stg_laws.proofs.Declaring.{same_place}
 use Rattle.stg_net.proofs.Orders.{IsOrder, signal_order-IsOrder, place_order-IsOrder, length-order, order_below, new_number-below, get_or-new_number}
 use Rattle.stg_net.proofs.Moved.{signals-moved, length-tokens_moved}
 use Rattle.stg_laws.specs.Renumbered.{IsRenumbered}
-use Rattle.stg_laws.proofs.Nets.{signal_names, no_signal, signal_name-at, graph_of-known, trans_at, full_name_at-net, live_below, place_below, place_at-net, place_at-past, tokens_at-net, takes-net, gives-net}
+use Rattle.stg_laws.proofs.Nets.{signal_names, no_signal, graph_of-known, trans_at, full_name_at-net, live_below, place_below, place_at-net, place_at-past, tokens_at-net, takes-net, gives-net}
 
 -- the weight of one arc, where it goes this way between t and p
 abbrev one_weight : Bool → ℕ → ℕ → NetArc → ℕ

@@ -1,12 +1,11 @@
 -- Components that show the groups of a specification are wired.
-use Rattle.std.proofs.Common.{◌≡◌, ◌≢◌, ℕ, ◌<◌, List, length, Bool, true, false, refl, sym, ◌∙◌, ap, subst, inl, inr}
+use Rattle.std.proofs.Common.{◌≡◌, ◌≢◌, ℕ, ◌<◌, List, length, Bool, true, false, sym, ◌∙◌, ap, subst, inl, inr}
 use Rattle.std.proofs.lemmas.Bool.{cases_eq, false≢true}
 use Rattle.stg_net.specs.declared.signal.Kind.{Kind}
-use Rattle.stg_net.specs.declared.signal.Signal.{Signal}
 use Rattle.stg_net.specs.Component.{is_one_of}
 use Rattle.stg_net.specs.Graph.{is_among}
-use Rattle.stg_net.specs.Net.{NetLists, IsNet, signal_at}
-use Rattle.stg_laws.specs.Stgs.{Stg, stg_of, stg_at, is_driven, names_where, knows, drives, IsInternal, IsInput}
+use Rattle.stg_net.specs.Net.{NetLists, IsNet}
+use Rattle.stg_laws.specs.Stgs.{Stg, stg_of, stg_at, is_driven, knows, drives, IsInternal}
 use Rattle.stg_laws.specs.Correct.{HasDriver, AreWired}
 use Rattle.stg_laws.proofs.Declaring.{Declares, declared, found, one_declared, signal_names-where}
 use Rattle.stg_laws.proofs.Nets.{graph_of-known}

@@ -1,13 +1,13 @@
 -- Wrong decompositions: each breaks one clause of the definition. The clause on the initial markings always holds, since the run without transitions reaches them.
-use Rattle.std.proofs.Common.{◌≡◌, ◌≢◌, ◌≤◌, ◌<◌, ℕ, zero, suc, List, [], ◌∷◌, Option, Some, None, true, false, refl, sym, ◌∙◌, ap, codes, length, IsTrue, arith}
+use Rattle.std.proofs.Common.{◌≡◌, ◌≤◌, ◌<◌, ℕ, zero, suc, List, [], ◌∷◌, Option, Some, None, refl, codes, arith}
 use Rattle.std.proofs.lemmas.Bool.{false≢true}
 use Rattle.stg_net.specs.declared.trans.Edge.TheVariants.{Rise}
 use Rattle.stg_net.specs.Graph.{Graph, FullName, Place, full_name_at, takes, tokens_at}
 use Rattle.stg_net.specs.Run.{Marking, IsEnabled, fired}
-use Rattle.stg_laws.specs.Cuts.{Label, label_of}
-use Rattle.stg_laws.specs.Stgs.{Stg, stg_at, knows, drives, IsInput}
-use Rattle.stg_laws.specs.Joint.{JointMarking, HasLabel, Moves, Reaches, AreRelated, IsJointStep}
-use Rattle.stg_laws.specs.Correct.{HasDriver, IsCorrect}
+use Rattle.stg_laws.specs.Cuts.{Label}
+use Rattle.stg_laws.specs.Stgs.{Stg, stg_at, knows, drives}
+use Rattle.stg_laws.specs.Joint.{Moves, AreRelated, IsJointStep}
+use Rattle.stg_laws.specs.Correct.{IsCorrect}
 
 abbrev a : List ℕ
 a = codes "a"

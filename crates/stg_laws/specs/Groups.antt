@@ -6,6 +6,7 @@ use Rattle.stg_net.specs.declared.trans.Edge.TheVariants.{Rise}
 use Rattle.stg_net.specs.declared.signal.Signal.{Signal}
 use Rattle.stg_net.specs.declared.arc.NetArc.{NetArc}
 use Rattle.stg_net.specs.Net.{NetLists, signal_at}
+use Rattle.stg_net.specs.Component.{is_one_of}
 use Rattle.stg_net.specs.Ordered.{numbers_where}
 use Rattle.stg_laws.specs.Stgs.{is_driven}
 
@@ -52,16 +53,13 @@ pub record IsPlainGroup (n : NetLists) (own : List ℕ) : Type 0 where
   pub ascends : IsStrictlyIncreasing own
   pub joined : (s : ℕ) → Contains own s ↔ AreJoined n (least_own own) s
 
-abbrev pub is_own : List ℕ → ℕ → Bool
-is_own own s = list_any (λ o. o == s) own
-
 -- whether a transition of an own signal takes from the place
 abbrev pub own_take_from : NetLists → List ℕ → ℕ → Bool
 own_take_from n own p = list_any (λ s. takes_from n s p) own
 
 -- whether the signal is an own one, or a transition of it takes from or gives to a place from which an own transition takes
 abbrev pub is_known_to : NetLists → List ℕ → ℕ → Bool
-is_known_to n own s = is_own own s || list_any (λ p. own_take_from n own p && is_at n s p) (range_with_len 0 (length n.tokens))
+is_known_to n own s = is_one_of own s || list_any (λ p. own_take_from n own p && is_at n s p) (range_with_len 0 (length n.tokens))
 
 -- the signals that a group knows, in ascending order
 abbrev pub known_to : NetLists → List ℕ → List ℕ

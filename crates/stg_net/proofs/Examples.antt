@@ -9,6 +9,9 @@ use Rattle.stg_net.specs.declared.trans.TransName.{TransName}
 use Rattle.stg_net.specs.declared.arc.NetArc.{NetArc}
 use Rattle.stg_net.specs.Net.{NetLists}
 use Rattle.stg_net.specs.Ordered.{place_order, ordered}
+use Rattle.std.specs.Prelude.{codes}
+use Rattle.stg_net.specs.declared.spec.PlaceName.TheVariants.{Named, Between}
+use Rattle.stg_net.specs.PlaceWords.{place_word}
 use Rattle.stg_net.specs.Component.{component}
 
 abbrev signal : ℕ → Kind → Signal
@@ -71,3 +74,10 @@ mixed-component = refl
 -- where another component knows the own internal signal, it is an output
 mixed-shared : (component (1 ∷ []) (1 ∷ 2 ∷ []) mixed).signals ≡ signal 120 Input ∷ signal 121 Output ∷ signal 122 Input ∷ signal 119 Input ∷ []
 mixed-shared = refl
+
+-- a place between two transitions and a named one
+between_first : place_word (record { net = celem; place_names = Between 5 0 ∷ Named (codes "p") ∷ [] }) 0 ≡ codes "<c-,a+>"
+between_first = refl
+
+named_second : place_word (record { net = celem; place_names = Between 5 0 ∷ Named (codes "p") ∷ [] }) 1 ≡ codes "p"
+named_second = refl

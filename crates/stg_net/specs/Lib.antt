@@ -6,6 +6,7 @@ pub mod Builder
 pub mod Ordered
 pub mod Component
 pub mod Spec
+pub mod PlaceWords
 pub mod Graph
 pub mod Run
 pub mod Contraction

@@ -8,7 +8,7 @@ use itoa::Buffer;
 use std::alloc::Global;
 
 /// How a signal changes.
-#[derive(Clone, Copy, Debug, PartialEq, Eq)]
+#[derive(Clone, Copy, Debug, PartialEq, Eq, Hash)]
 pub enum Edge {
     Rise,
     Fall,
@@ -18,7 +18,7 @@ pub enum Edge {
 /// The full name of a transition. `signal` is the number of a signal of its net.
 ///
 /// Two transitions have the same label where signal and edge are equal.
-#[derive(Clone, Copy, Debug, PartialEq, Eq)]
+#[derive(Clone, Copy, Debug, PartialEq, Eq, Hash)]
 pub struct TransName {
     pub signal: u32,
     pub edge: Edge,

@@ -15,7 +15,8 @@ use Rattle.stg_net.specs.Initial.{graph_of}
 use Rattle.stg_net.proofs.Weights.{Joint, weight_of-joint, takes-graph_of, gives-graph_of, full_name_at-initial}
 use Rattle.stg_net.proofs.Signals.{one_signal}
 use Rattle.stg_laws.specs.Closed.{IsClosed}
-use Rattle.stg_laws.specs.Groups.{takes_from, is_at, own_take_from, is_own, is_known_to, known_to, names_at, IsPlainGroup, least_own}
+use Rattle.stg_net.specs.Component.{is_one_of}
+use Rattle.stg_laws.specs.Groups.{takes_from, is_at, own_take_from, is_known_to, known_to, names_at, IsPlainGroup, least_own}
 use Rattle.stg_laws.proofs.Nets.{live_below}
 use Rattle.stg_partition.specs.declared.group.Group.{Group}
 use Rattle.stg_partition.specs.PlainGroups.{ArePlainGroups, AreClosed}
@@ -89,7 +90,7 @@ known_at : (n : NetLists) (own : List ℕ) (s p : ℕ) → p < length n.tokens �
 known_at n own s p inside takes at =
     let test : ℕ → Bool = λ q. own_take_from n own q && is_at n s q in
     let here : get_or (range_with_len 0 (length n.tokens)) p 0 ≡ p = omega (arith, get_or-range_with_len 0 (length n.tokens) p 0 inside) in
-    or_second (is_own own s) (list_any test (range_with_len 0 (length n.tokens)))
+    or_second (is_one_of own s) (list_any test (range_with_len 0 (length n.tokens)))
     (list_any_at test (range_with_len 0 (length n.tokens)) p 0 (omega (arith, inside, length-range_with_len 0 (length n.tokens))) (ap test here ∙ both (own_take_from n own p) (is_at n s p) takes at))
 
 -- what a list of signals has to know is closed

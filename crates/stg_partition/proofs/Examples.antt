@@ -11,16 +11,16 @@ use Rattle.stg_net.specs.Net.{NetLists}
 use Rattle.stg_net.specs.Ordered.{numbers_where}
 use Rattle.stg_laws.specs.Groups.{in_conflict, known_to, AreJoined}
 
-abbrev named : ℕ → Edge → TransName
+abbrev pub named : ℕ → Edge → TransName
 named s edge = record { signal = s; edge = edge; index = 0 }
 
-abbrev into : ℕ → ℕ → NetArc
+abbrev pub into : ℕ → ℕ → NetArc
 into p t = record { place = p; trans = t; into = true; weight = 1 }
 
-abbrev from : ℕ → ℕ → NetArc
+abbrev pub from : ℕ → ℕ → NetArc
 from p t = record { place = p; trans = t; into = false; weight = 1 }
 
-abbrev signal : ℕ → Kind → Signal
+abbrev pub signal : ℕ → Kind → Signal
 signal letter kind = record { name = letter ∷ []; kind = kind }
 
 -- the signals in conflict with s
@@ -29,7 +29,7 @@ conflicts_of n s = numbers_where (in_conflict n s) 5
 
 -- VME bus controller, read cycle; the signals are dsr ldtack lds d dtack
 -- its transitions are dsr+ lds+ ldtack+ d+ dtack+ dsr- d- dtack- lds- ldtack-
-abbrev bus : NetLists
+abbrev pub bus : NetLists
 bus = record {
   signals = signal 97 Input ∷ signal 98 Input ∷ signal 99 Output ∷ signal 100 Output ∷ signal 101 Output ∷ [];
   trans = named 0 Rise ∷ named 2 Rise ∷ named 1 Rise ∷ named 3 Rise ∷ named 4 Rise ∷ named 0 Fall ∷ named 3 Fall ∷ named 4 Fall ∷ named 2 Fall ∷ named 1 Fall ∷ [];
@@ -56,7 +56,7 @@ bus-known : map (λ s. known_to bus (s ∷ [])) (2 ∷ 3 ∷ 4 ∷ []) ≡ (0 �
 bus-known = refl
 
 -- s b+, b+ p, p a+ x+: the input a triggers nothing, and is known to x
-abbrev shared : NetLists
+abbrev pub shared : NetLists
 shared = record {
   signals = signal 97 Input ∷ signal 98 Input ∷ signal 120 Output ∷ [];
   trans = named 1 Rise ∷ named 0 Rise ∷ named 2 Rise ∷ [];
@@ -71,7 +71,7 @@ shared-known : known_to shared (2 ∷ []) ≡ 0 ∷ 1 ∷ 2 ∷ []
 shared-known = refl
 
 -- p x+ y+, q y+ z+: the first output is linked with the last one by the second
-abbrev linked : NetLists
+abbrev pub linked : NetLists
 linked = record {
   signals = signal 120 Output ∷ signal 121 Internal ∷ signal 122 Output ∷ [];
   trans = named 0 Rise ∷ named 1 Rise ∷ named 2 Rise ∷ [];

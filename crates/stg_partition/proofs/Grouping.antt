@@ -9,7 +9,8 @@ use Rattle.std.proofs.lemmas.List.Kept.{AllPairs-from_increasing}
 use Rattle.stg_net.specs.declared.arc.NetArc.{NetArc}
 use Rattle.stg_net.specs.Net.{NetLists, IsNet}
 use Rattle.stg_net.specs.Ordered.{numbers_where}
-use Rattle.stg_laws.specs.Groups.{signal_of, is_driven_at, takes_from, is_at, is_own, own_take_from, is_known_to, known_to, AreJoined, IsPlainGroup, least_own}
+use Rattle.stg_net.specs.Component.{is_one_of}
+use Rattle.stg_laws.specs.Groups.{signal_of, is_driven_at, takes_from, is_at, own_take_from, is_known_to, known_to, AreJoined, IsPlainGroup, least_own}
 use Rattle.stg_partition.specs.declared.group.Group.{Group}
 use Rattle.stg_partition.specs.PlainGroups.{ArePlainGroups}
 use Rattle.stg_partition.specs.Joining.{taker_at, is_led, shows, group_of, is_leader, IsJoining}
@@ -82,7 +83,7 @@ module _ (n : NetLists) (leaders : List ℕ) (takers : List (Option ℕ)) (j : I
       let takes = contained_any (λ o. takes_from n o p) (own_of l) t own_t (j.own p t taker).1 in
       let test : ℕ → Bool = λ q. own_take_from n (own_of l) q && is_at n s q in
       let here : get_or (range_with_len 0 (length n.tokens)) p 0 ≡ p = omega (arith, get_or-range_with_len 0 (length n.tokens) p 0 inside) in
-      or_second (is_own (own_of l) s) (list_any test (range_with_len 0 (length n.tokens)))
+      or_second (is_one_of (own_of l) s) (list_any test (range_with_len 0 (length n.tokens)))
       (list_any_at test (range_with_len 0 (length n.tokens)) p 0 (omega (arith, inside, length-range_with_len 0 (length n.tokens))) (ap test here ∙ both (own_take_from n (own_of l) p) (is_at n s p) takes at))
 
   -- the taker that leads to the group
@@ -110,10 +111,10 @@ module _ (n : NetLists) (leaders : List ℕ) (takers : List (Option ℕ)) (j : I
 
   own_is_known : (l s : ℕ) → s < length leaders → leader_of leaders s ≡ l → is_known_to n (own_of l) s ≡ true
   own_is_known l s below e =
-      or_first (is_own (own_of l) s) (list_any (λ p. own_take_from n (own_of l) p && is_at n s p) (range_with_len 0 (length n.tokens)))
+      or_first (is_one_of (own_of l) s) (list_any (λ p. own_take_from n (own_of l) p && is_at n s p) (range_with_len 0 (length n.tokens)))
       (contained_any (λ o. o == s) (own_of l) s (led_own l s below e) (eq-eqb s s refl))
 
-  own_leads : (l s : ℕ) → is_own (own_of l) s ≡ true → leader_of leaders s ≡ l
+  own_leads : (l s : ℕ) → is_one_of (own_of l) s ≡ true → leader_of leaders s ≡ l
   own_leads l s e =
       let f = passing (λ o. o == s) (own_of l) e in
       ap (leader_of leaders) (sym (eqb-true f.item s f.passes)) ∙ (own_led l f.item (f.at, f.inside, f.item_is f.item)).1
@@ -132,7 +133,7 @@ module _ (n : NetLists) (leaders : List ℕ) (takers : List (Option ℕ)) (j : I
       (ap (shows n leaders takers l s) (f.item_is f.item) ∙ both (is_led leaders l (taker_at takers f.item.place)) (signal_of n f.item == s) led parts.1)
 
   known_seen : (l s : ℕ) → is_driven_at n.signals l ≡ true → leader_of leaders l ≡ l → is_known_to n (own_of l) s ≡ true → ((slice_index leaders s == l) || list_any (shows n leaders takers l s) n.arcs) ≡ true
-  known_seen l s output e known = elim (or_either (is_own (own_of l) s) (list_any (λ p. own_take_from n (own_of l) p && is_at n s p) (range_with_len 0 (length n.tokens))) known) [
+  known_seen l s output e known = elim (or_either (is_one_of (own_of l) s) (list_any (λ p. own_take_from n (own_of l) p && is_at n s p) (range_with_len 0 (length n.tokens))) known) [
     | inl own ↦ or_first (slice_index leaders s == l) (list_any (shows n leaders takers l s) n.arcs) (eq-eqb (leader_of leaders s) l (own_leads l s own))
     | inr at ↦
         let f = passing (λ p. own_take_from n (own_of l) p && is_at n s p) (range_with_len 0 (length n.tokens)) at in

@@ -1,4 +1,5 @@
 pub mod Examples
+pub mod Rows
 pub mod Conflicts
 pub mod Leading
 pub mod Marking
@@ -6,3 +7,4 @@ pub mod Numbers
 pub mod Grouping
 pub mod Unique
 pub mod Closing
+pub mod Sharing

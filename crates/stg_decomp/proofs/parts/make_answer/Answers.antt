@@ -1,4 +1,4 @@
-use Rattle.std.proofs.Common.{◌≡◌, arith, rules}
+use Rattle.std.proofs.Common.{◌≡◌, arith}
 use Rattle.stg_decomp.specs.Parts.{AreParts, parts_of}
 use Rattle.stg_decomp.proofs.Meaning.{parts_are_components, few_parts}
 use Rattle.stg_decomp.proofs.parts.make_answer.Goals as goal

@@ -1,0 +1,111 @@
+-- Where a marking ends.
+use Rattle.std.proofs.Common.{◌≡◌, ◌+◌, ◌-◌, ◌<◌, ◌≤◌, ℕ, zero, suc, List, [], ◌∷◌, Bool, true, false, cond, not, ◌||◌, ◌==◌, nat_lt, inl, inr, take, drop, get_or, length, map, refl, sym, ap, subst, ◌∙◌, arith}
+use Rattle.std.proofs.lemmas.Bool.{cases_Bool, cases_lt, lt-ltb, le-ltb, true≢false, or_right}
+use Rattle.std.proofs.lemmas.Slice.Eq.{bytes_eq-Decides}
+use Rattle.std.specs.Prelude.{codes}
+use Rattle.std.specs.List.{list_any}
+use Rattle.std.specs.Borrow.{Bor}
+use Rattle.std.proofs.lemmas.List.{length-map}
+use Rattle.astg_read.specs.Shown.{shown_words}
+use Rattle.astg_read.specs.Rows.{Word, Row}
+use Rattle.astg_read.specs.Header.{Declared}
+use Rattle.astg_read.specs.Graphs.{PlaceAt}
+use Rattle.astg_read.specs.Markings.{is_opening, is_closing, before_close, after_close, close_length, entries_after, has_bad_entry, is_bad_marking}
+
+or_false : (b : Bool) → (b || false) ≡ b
+or_false true = refl
+or_false false = refl
+
+-- a list with items
+pub positive : (n : ℕ) → (n == 0) ≡ false → 0 < n
+positive zero h = absurd (true≢false h)
+positive (suc n) h = omega arith
+
+words-take : (n : ℕ) (words : List (Bor (List ℕ))) → shown_words (take n words) ≡ take n (shown_words words)
+words-take zero [] = refl
+words-take (suc n) [] = refl
+words-take zero (w ∷ words) = refl
+words-take (suc n) (w ∷ words) = ap (λ ws. w.now ∷ ws) (words-take n words)
+
+-- the entries of the first words
+pub entries-first : (n m : ℕ) (words : List (Bor (List ℕ))) → n ≡ m → entries_after zero (shown_words (take n words)) ≡ entries_after zero (take m (shown_words words))
+entries-first n m words e = ap (entries_after zero) (words-take n words ∙ ap (λ k. take k (shown_words words)) e)
+
+-- the words before the first } are the first ones
+pub before-take : (ws : Row) → before_close ws ≡ take (close_length ws) ws
+before-take [] = refl
+before-take (w ∷ ws) = elim (cases_Bool (is_closing w)) [
+    inl k ↦ ap (λ b. cond b [] (w ∷ before_close ws)) k ∙ sym (ap (λ b. take (cond b 0 (suc (close_length ws))) (w ∷ ws)) k)
+  | inr k ↦ ap (λ b. cond b [] (w ∷ before_close ws)) k ∙ ap (λ us. w ∷ us) (before-take ws) ∙ sym (ap (λ b. take (cond b 0 (suc (close_length ws))) (w ∷ ws)) k) ]
+
+-- how many words there are after it
+after-length : (ws : Row) → close_length ws + length (after_close ws) + cond (list_any is_closing ws) 1 0 ≡ length ws
+after-length [] = refl
+after-length (w ∷ ws) = elim (cases_Bool (is_closing w)) [
+    inl k ↦ (λ j. cond (k j) 0 (suc (close_length ws)) + length (cond (k j) ws (after_close ws)) + cond (k j || list_any is_closing ws) 1 0) ∙ (let e : 0 + length ws + 1 ≡ suc (length ws) = omega arith in e)
+  | inr k ↦ (λ j. cond (k j) 0 (suc (close_length ws)) + length (cond (k j) ws (after_close ws)) + cond (k j || list_any is_closing ws) 1 0) ∙ (let e : suc (close_length ws) + length (after_close ws) + cond (list_any is_closing ws) 1 0 ≡ suc (length ws) = omega (arith, after-length ws) in e) ]
+
+after-none : (ws : Row) → list_any is_closing ws ≡ false → length (after_close ws) ≡ 0
+after-none [] h = refl
+after-none (w ∷ ws) h = elim (cases_Bool (is_closing w)) [
+    inl k ↦ absurd (true≢false (sym (ap (λ b. b || list_any is_closing ws) k) ∙ h))
+  | inr k ↦ ap (λ b. length (cond b ws (after_close ws))) k ∙ after-none ws (sym (ap (λ b. b || list_any is_closing ws) k) ∙ h) ]
+
+-- whether there is one
+pub closed-from : (ws : Row) (n : ℕ) → n ≡ length ws → list_any is_closing ws ≡ nat_lt (close_length ws) n
+closed-from ws n e = elim (cases_Bool (list_any is_closing ws)) [
+    inl k ↦ k ∙ sym (lt-ltb (close_length ws) n (omega (arith, after-length ws, ap {B = ℕ} (λ b. cond b 1 0) k, e)))
+  | inr k ↦ k ∙ sym (le-ltb (close_length ws) n (omega (arith, after-length ws, ap {B = ℕ} (λ b. cond b 1 0) k, after-none ws k, e))) ]
+
+-- whether words follow it
+pub followed-from : (ws : Row) (n : ℕ) → n ≡ length ws → nat_lt 0 (length (after_close ws)) ≡ nat_lt 1 (n - close_length ws)
+followed-from ws n e = elim (cases_Bool (list_any is_closing ws)) [
+    inl k ↦ by_length (omega (arith, after-length ws, ap {B = ℕ} (λ b. cond b 1 0) k, e))
+  | inr k ↦ le-ltb 0 (length (after_close ws)) (omega (arith, after-none ws k)) ∙ sym (le-ltb 1 (n - close_length ws) (omega (arith, after-length ws, ap {B = ℕ} (λ b. cond b 1 0) k, after-none ws k, e))) ]
+  where
+    by_length : n - close_length ws ≡ length (after_close ws) + 1 → nat_lt 0 (length (after_close ws)) ≡ nat_lt 1 (n - close_length ws)
+    by_length h = by_count (length (after_close ws)) ∙ ap (nat_lt 1) (sym h)
+      where
+        by_count : (m : ℕ) → nat_lt 0 m ≡ nat_lt 1 (m + 1)
+        by_count m = elim (cases_lt 0 m) [ inl p ↦ lt-ltb 0 m p ∙ sym (lt-ltb 1 (m + 1) (omega (arith, p))) | inr q ↦ le-ltb 0 m q ∙ sym (le-ltb 1 (m + 1) (omega (arith, q))) ]
+
+module _ (most : ℕ) (d : Declared) (places : List PlaceAt) where
+  -- a marking that begins with {
+  pub opened : (w : Word) (ws : Row) → is_opening w ≡ true
+      → is_bad_marking most d places (w ∷ ws) ≡ (has_bad_entry most d places (list_any is_closing ws) [] (entries_after zero (before_close ws)) || nat_lt 0 (length (after_close ws)))
+  opened w ws h =
+      let e : w ≡ codes "{" = (bytes_eq-Decides w (codes "{")).0 h in
+      ap (λ v. is_bad_marking most d places (v ∷ ws)) e
+
+  pub not-opened : (w : Word) (ws : Row) → is_opening w ≡ false → is_bad_marking most d places (w ∷ ws) ≡ true
+  not-opened w ws h = ap (λ b. (not b || has_bad_entry most d places (list_any is_closing (w ∷ ws)) [] (entries_after zero (before_close ws))) || nat_lt 0 (length (after_close (w ∷ ws)))) h
+
+  -- the same of words that are slices of the text
+  opened-words : (words : List (Bor (List ℕ))) (x : Bor (List ℕ)) → 0 < length words → is_opening (get_or words 0 x).now ≡ true
+      → is_bad_marking most d places (shown_words words) ≡ (has_bad_entry most d places (list_any is_closing (shown_words (drop 1 words))) [] (entries_after zero (before_close (shown_words (drop 1 words)))) || nat_lt 0 (length (after_close (shown_words (drop 1 words)))))
+  opened-words [] x some h = absurd (omega (arith, some))
+  opened-words (w ∷ ws) x some h = opened w.now (shown_words ws) h
+
+  pub not-opened-words : (words : List (Bor (List ℕ))) (x : Bor (List ℕ)) → 0 < length words → is_opening (get_or words 0 x).now ≡ false → is_bad_marking most d places (shown_words words) ≡ true
+  not-opened-words [] x some h = absurd (omega (arith, some))
+  not-opened-words (w ∷ ws) x some h = not-opened w.now (shown_words ws) h
+
+  module _ (words : List (Bor (List ℕ))) (x : Bor (List ℕ)) (some : 0 < length words) (h : is_opening (get_or words 0 x).now ≡ true) (rest : List (Bor (List ℕ))) (e : rest ≡ drop 1 words) (count : ℕ) (k : count ≡ close_length (shown_words rest)) where
+    abbrev long : ℕ
+    long = length rest
+
+    shown-long : long ≡ length (shown_words rest)
+    shown-long = sym (length-map rest (λ (w : Bor (List ℕ)). w.now))
+
+    by_rest : is_bad_marking most d places (shown_words words) ≡ (has_bad_entry most d places (nat_lt count long) [] (entries_after zero (take count (shown_words rest))) || nat_lt 1 (long - count))
+    by_rest = opened-words words x some h
+        ∙ ap (λ ws. has_bad_entry most d places (list_any is_closing (shown_words ws)) [] (entries_after zero (before_close (shown_words ws))) || nat_lt 0 (length (after_close (shown_words ws)))) (sym e)
+        ∙ (λ j. has_bad_entry most d places ((closed-from (shown_words rest) long shown-long ∙ ap (λ n. nat_lt n long) (sym k)) j) [] (entries_after zero ((before-take (shown_words rest) ∙ ap (λ n. take n (shown_words rest)) (sym k)) j)) || (followed-from (shown_words rest) long shown-long ∙ ap (λ n. nat_lt 1 (long - n)) (sym k)) j)
+
+    -- words follow the end
+    pub followed : nat_lt 1 (long - count) ≡ true → is_bad_marking most d places (shown_words words) ≡ true
+    followed t = by_rest ∙ or_right (has_bad_entry most d places (nat_lt count long) [] (entries_after zero (take count (shown_words rest)))) (nat_lt 1 (long - count)) t
+
+    -- none do
+    pub not-followed : nat_lt 1 (long - count) ≡ false → is_bad_marking most d places (shown_words words) ≡ has_bad_entry most d places (nat_lt count long) [] (entries_after zero (take count (shown_words rest)))
+    not-followed t = by_rest ∙ ap (λ b. has_bad_entry most d places (nat_lt count long) [] (entries_after zero (take count (shown_words rest))) || b) t ∙ or_false (has_bad_entry most d places (nat_lt count long) [] (entries_after zero (take count (shown_words rest))))

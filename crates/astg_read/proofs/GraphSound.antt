@@ -1,0 +1,167 @@
+-- What a line of the graph adds is there.
+use Rattle.std.proofs.Common.{◌≡◌, ℕ, zero, List, [], ◌∷◌, ◌++◌, Bool, true, false, cond, not, ◌||◌, ◌&&◌, nat_eq, length, filter_map, flat_map, inl, inr, refl, sym, ap, subst, ◌∙◌, Some, None, Option, option_map, is_some, append-nil, arith}
+use Rattle.std.proofs.lemmas.Bool.{cases_Bool, or_parts, and_parts, and_from, true≢false, false≢true, ne_eqb}
+use Rattle.std.proofs.lemmas.Slice.Eq.{bytes_eq-Decides}
+use Rattle.std.specs.List.{list_any, list_all, cons_option}
+use Rattle.std.specs.Option.{option_map_or}
+use Rattle.std.specs.Str.{bytes_eq}
+use Rattle.stg_net.specs.declared.trans.TransName.{TransName}
+use Rattle.astg_read.specs.Rows.{Word, Row}
+use Rattle.astg_read.specs.Header.{Declared}
+use Rattle.astg_read.specs.Lists.{firsts, added}
+use Rattle.astg_read.specs.Nodes.{Node, Trans, Place, same_trans, trans_of, trans_or_place, node_of}
+use Rattle.astg_read.specs.Targets.{Target, targets_after, is_weight, weight_of, is_good_group}
+use Rattle.astg_read.specs.Graphs.{Pair, PlaceAt, Named, Between, same_place, trans_at, place_at, place_between, pair_of, pairs_on, trans_on}
+use Rattle.astg_read.specs.Steps.{trans_in, places_in}
+use Rattle.astg_read.specs.Sound.{is_trans_in, is_weighed, IsNodeIn, IsBetweenIn, IsPairIn, ArePairsIn}
+use Rattle.astg_read.proofs.Agains.{any-added, all-append}
+use Rattle.astg_read.proofs.IndexLemmas.{IsGoodTrans, trans_of-good}
+use Rattle.astg_read.proofs.NumberLemmas.{any-firsts, same_trans-refl}
+use Rattle.astg_read.proofs.StepLemmas.{firsts-append}
+
+pub same_place-refl : (p : PlaceAt) → same_place p p ≡ true
+same_place-refl (Named p) = (bytes_eq-Decides p p).1 refl
+same_place-refl (Between t u) = and_from (same_trans t t) (same_trans u u) (same_trans-refl t) (same_trans-refl u)
+
+-- what is there stays there
+node-more : (ts xs : List TransName) (ps ys : List PlaceAt) (n : Node) → IsNodeIn ts ps n → IsNodeIn (firsts same_trans ts xs) (firsts same_place ps ys) n
+node-more ts xs ps ys (Trans t) h = any-firsts same_trans (same_trans t) ts xs h
+node-more ts xs ps ys (Place p) h = any-firsts same_place (same_place (Named p)) ps ys h
+
+between-more : (ps ys : List PlaceAt) (m n : Node) → IsBetweenIn ps m n → IsBetweenIn (firsts same_place ps ys) m n
+between-more ps ys (Trans t) (Trans u) h = any-firsts same_place (same_place (Between t u)) ps ys h
+between-more ps ys (Trans t) (Place q) h = tt
+between-more ps ys (Place p) (Trans u) h = tt
+between-more ps ys (Place p) (Place q) h = tt
+
+pair-more : (ts xs : List TransName) (ps ys : List PlaceAt) (p : Pair) → IsPairIn ts ps p → IsPairIn (firsts same_trans ts xs) (firsts same_place ps ys) p
+pair-more ts xs ps ys p h = record {
+  source_there = node-more ts xs ps ys p.source h.source_there;
+  target_there = node-more ts xs ps ys p.target h.target_there;
+  between_there = between-more ps ys p.source p.target h.between_there }
+
+pub pairs-more : (ts xs : List TransName) (ps ys : List PlaceAt) (pairs : List Pair) → ArePairsIn ts ps pairs → ArePairsIn (firsts same_trans ts xs) (firsts same_place ps ys) pairs
+pairs-more ts xs ps ys [] h = tt
+pairs-more ts xs ps ys (p ∷ pairs) h = (pair-more ts xs ps ys p h.0, pairs-more ts xs ps ys pairs h.1)
+
+pub pairs-append : (ts : List TransName) (ps : List PlaceAt) (xs ys : List Pair) → ArePairsIn ts ps xs → ArePairsIn ts ps ys → ArePairsIn ts ps (xs ++ ys)
+pairs-append ts ps [] ys h k = k
+pairs-append ts ps (x ∷ xs) ys h k = (h.0, pairs-append ts ps xs ys h.1 k)
+
+-- a node that was added is there
+node-added : (ts : List TransName) (ps : List PlaceAt) (n : Node) → IsNodeIn (firsts same_trans ts (trans_at n)) (firsts same_place ps (place_at n)) n
+node-added ts ps (Trans t) = any-added same_trans ts t (same_trans-refl t)
+node-added ts ps (Place p) = any-added same_place ps (Named p) (same_place-refl (Named p))
+
+between-added : (ps : List PlaceAt) (m n : Node) → IsBetweenIn (firsts same_place ps (place_between m n)) m n
+between-added ps (Trans t) (Trans u) = any-added same_place ps (Between t u) (same_place-refl (Between t u))
+between-added ps (Trans t) (Place q) = tt
+between-added ps (Place p) (Trans u) = tt
+between-added ps (Place p) (Place q) = tt
+
+-- each pair has this source
+abbrev HaveSource : Node → List Pair → Type 0
+HaveSource n [] = Unit {0}
+HaveSource n (p ∷ ps) = (p.source ≡ n) × HaveSource n ps
+
+-- the targets of these pairs are added
+targets-there : (n : Node) (pairs : List Pair) (ts : List TransName) (ps : List PlaceAt) → HaveSource n pairs → IsNodeIn ts ps n → ArePairsIn (firsts same_trans ts (trans_in pairs)) (firsts same_place ps (places_in pairs)) pairs
+targets-there n [] ts ps h s = tt
+targets-there n (p ∷ pairs) ts ps h s =
+    let ts1 = firsts same_trans ts (trans_at p.target) in
+    let ps1 = firsts same_place ps (place_at p.target) in
+    let ps2 = firsts same_place ps1 (place_between p.source p.target) in
+    let here : IsPairIn ts1 ps2 p = record {
+      source_there = subst (IsNodeIn ts1 ps2) (sym h.0) (node-more ts1 [] ps1 (place_between p.source p.target) n (node-more ts (trans_at p.target) ps (place_at p.target) n s));
+      target_there = node-more ts1 [] ps1 (place_between p.source p.target) p.target (node-added ts ps p.target);
+      between_there = between-added ps1 p.source p.target } in
+    let source : IsNodeIn ts1 ps2 n = node-more ts1 [] ps1 (place_between p.source p.target) n (node-more ts (trans_at p.target) ps (place_at p.target) n s) in
+    let rest = targets-there n pairs ts1 ps2 h.1 source in
+    let t : firsts same_trans ts (trans_in (p ∷ pairs)) ≡ firsts same_trans ts1 (trans_in pairs) = firsts-append same_trans ts (trans_at p.target) (trans_in pairs) in
+    let q : firsts same_place ps (places_in (p ∷ pairs)) ≡ firsts same_place ps2 (places_in pairs) =
+        firsts-append same_place ps (place_at p.target ++ place_between p.source p.target) (places_in pairs)
+        ∙ ap (λ x. firsts same_place x (places_in pairs)) (firsts-append same_place ps (place_at p.target) (place_between p.source p.target)) in
+    let P : List TransName → List PlaceAt → Type 0 = λ a b. ArePairsIn a b (p ∷ pairs) in
+    subst (λ a. P a (firsts same_place ps (places_in (p ∷ pairs)))) (sym t) (subst (λ b. P (firsts same_trans ts1 (trans_in pairs)) b) (sym q) (pair-more ts1 (trans_in pairs) ps2 (places_in pairs) p here, rest))
+
+-- the pairs of a line have its source
+abbrev by_pair : (n : Node) (o : Option Pair) → Type 0
+by_pair n None = Unit {0}
+by_pair n (Some p) = p.source ≡ n
+
+cons-source : (n : Node) (o : Option Pair) (ps : List Pair) → by_pair n o → HaveSource n ps → HaveSource n (cons_option o ps)
+cons-source n None ps h k = k
+cons-source n (Some p) ps h k = (h, k)
+
+sources : (d : Declared) (w : Word) (ts : List Target) → HaveSource (node_of d w) (filter_map (pair_of d w) ts)
+sources d w [] = tt
+sources d w (t ∷ ts) = cons-source (node_of d w) (pair_of d w t) (filter_map (pair_of d w) ts) (by_word t.word) (sources d w ts)
+  where
+    by_word : (o : Option Word) → by_pair (node_of d w) (option_map (λ word. record { source = node_of d w; target = node_of d word; weight = weight_of t.group }) o)
+    by_word None = tt
+    by_word (Some v) = refl
+
+-- the pairs of a line are there after it
+pub line-there : (d : Declared) (w : Word) (ws : Row) (ts : List TransName) (ps : List PlaceAt)
+    → ArePairsIn (firsts same_trans (firsts same_trans ts (trans_at (node_of d w))) (trans_in (pairs_on d (w ∷ ws)))) (firsts same_place (firsts same_place ps (place_at (node_of d w))) (places_in (pairs_on d (w ∷ ws)))) (pairs_on d (w ∷ ws))
+line-there d w ws ts ps =
+    targets-there (node_of d w) (pairs_on d (w ∷ ws)) (firsts same_trans ts (trans_at (node_of d w))) (firsts same_place ps (place_at (node_of d w))) (sources d w (targets_after zero ws)) (node-added ts ps (node_of d w))
+
+-- weights within the limit
+weighed-some : (most : ℕ) (o : Option ℕ) → is_weight most o ≡ true → option_map_or (λ w. is_weight most (Some w)) o true ≡ true
+weighed-some most None h = absurd (false≢true h)
+weighed-some most (Some n) h = h
+
+weighed-by : (most : ℕ) (group : Row) (b : Bool) → (nat_eq (length group) 0 || (b && is_weight most (weight_of group))) ≡ true → option_map_or (λ w. is_weight most (Some w)) (weight_of group) true ≡ true
+weighed-by most [] b h = refl
+weighed-by most (g ∷ gs) b h =
+    let e : nat_eq (length (g ∷ gs)) 0 ≡ false = ne_eqb (length (g ∷ gs)) 0 (omega arith) in
+    weighed-some most (weight_of (g ∷ gs)) (and_parts b (is_weight most (weight_of (g ∷ gs))) (sym (ap (λ a. a || (b && is_weight most (weight_of (g ∷ gs)))) e) ∙ h)).1
+
+abbrev pair_weighed : ℕ → Option Pair → Type 0
+pair_weighed most None = Unit {0}
+pair_weighed most (Some p) = is_weighed most p ≡ true
+
+cons-weighed : (most : ℕ) (o : Option Pair) (ps : List Pair) → pair_weighed most o → list_all (is_weighed most) ps ≡ true → list_all (is_weighed most) (cons_option o ps) ≡ true
+cons-weighed most None ps h k = k
+cons-weighed most (Some p) ps h k = and_from (is_weighed most p) (list_all (is_weighed most) ps) h k
+
+pub line-weighed : (most : ℕ) (d : Declared) (w : Word) (ts : List Target) → list_all (is_good_group most) ts ≡ true → list_all (is_weighed most) (filter_map (pair_of d w) ts) ≡ true
+line-weighed most d w [] h = refl
+line-weighed most d w (t ∷ ts) h =
+    let q = and_parts (is_good_group most t) (list_all (is_good_group most) ts) h in
+    cons-weighed most (pair_of d w t) (filter_map (pair_of d w) ts) (by_word t.word q.0) (line-weighed most d w ts q.1)
+  where
+    by_word : (o : Option Word) → (nat_eq (length t.group) 0 || (is_some o && is_weight most (weight_of t.group))) ≡ true
+        → pair_weighed most (option_map (λ word. record { source = node_of d w; target = node_of d word; weight = weight_of t.group }) o)
+    by_word None g = tt
+    by_word (Some v) g = weighed-by most t.group true g
+
+-- the transitions of a line have signals that are there
+node-good : (d : Declared) (w : Word) → list_all (is_trans_in (length d.signals)) (trans_at (node_of d w)) ≡ true
+node-good d w = by_trans (trans_of d w) (trans_of-good d w)
+  where
+    by_trans : (o : Option TransName) → IsGoodTrans (length d.signals) o → list_all (is_trans_in (length d.signals)) (trans_at (trans_or_place w o)) ≡ true
+    by_trans None h = refl
+    by_trans (Some t) h = and_from (is_trans_in (length d.signals) t) true h refl
+
+abbrev target_good : Declared → Option Pair → Type 0
+target_good d None = Unit {0}
+target_good d (Some p) = list_all (is_trans_in (length d.signals)) (trans_at p.target) ≡ true
+
+cons-good : (d : Declared) (o : Option Pair) (ps : List Pair) → target_good d o → list_all (is_trans_in (length d.signals)) (trans_in ps) ≡ true → list_all (is_trans_in (length d.signals)) (trans_in (cons_option o ps)) ≡ true
+cons-good d None ps h k = k
+cons-good d (Some p) ps h k = all-append same_trans (is_trans_in (length d.signals)) (trans_at p.target) (trans_in ps) h k
+
+targets-good : (d : Declared) (w : Word) (ts : List Target) → list_all (is_trans_in (length d.signals)) (trans_in (filter_map (pair_of d w) ts)) ≡ true
+targets-good d w [] = refl
+targets-good d w (t ∷ ts) = cons-good d (pair_of d w t) (filter_map (pair_of d w) ts) (by_word t.word) (targets-good d w ts)
+  where
+    by_word : (o : Option Word) → target_good d (option_map (λ word. record { source = node_of d w; target = node_of d word; weight = weight_of t.group }) o)
+    by_word None = tt
+    by_word (Some v) = node-good d v
+
+pub line-good : (d : Declared) (w : Word) (ws : Row) → list_all (is_trans_in (length d.signals)) (trans_on d (w ∷ ws)) ≡ true
+line-good d w ws =
+    all-append same_trans (is_trans_in (length d.signals)) (trans_at (node_of d w) ++ []) (trans_in (pairs_on d (w ∷ ws)))
+      (ap (list_all (is_trans_in (length d.signals))) (append-nil (trans_at (node_of d w))) ∙ node-good d w) (targets-good d w (targets_after zero ws))

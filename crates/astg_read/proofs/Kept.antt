@@ -1,0 +1,184 @@
+-- What each line that is taken keeps.
+use Rattle.std.proofs.Common.{◌≡◌, ℕ, ◌≤◌, ◌<◌, List, [], ◌∷◌, ◌++◌, Bool, true, false, cond, not, drop, unwrap_or, ◌||◌, ◌&&◌, length, nat_lt, refl, sym, ap, subst, ◌∙◌, inl, inr, Some, None, Option, is_some, MatchOption, append-nil, arith}
+use Rattle.std.proofs.lemmas.Bool.{cases_Bool, cases_lt, lt-ltb, or_parts, true≢false, false≢true}
+use Rattle.std.proofs.lemmas.Slice.Eq.{bytes_eq-Decides}
+use Rattle.std.specs.Prelude.{codes, ⊤}
+use Rattle.std.specs.List.{list_any}
+use Rattle.stg_net.specs.declared.limits.Limits.{Limits}
+use Rattle.stg_net.specs.declared.signal.Signal.{Signal}
+use Rattle.astg_read.specs.declared.rule.Rule.{Rule}
+use Rattle.astg_read.specs.declared.rule.Rule.TheVariants.{BadMarking, TooMany, HasDummy, UnknownDirective, OutOfOrder}
+use Rattle.astg_read.specs.Rows.{Word, Row, begins, begins_with_dot, after_first, is_header, is_directive, is_graph_row}
+use Rattle.astg_read.specs.Header.{Declared}
+use Rattle.astg_read.specs.Markings.{is_bad_marking, is_unfinished}
+use Rattle.astg_read.specs.Known.{Known, arcs_in}
+use Rattle.astg_read.specs.Rules.{first_broken, line_rules, has_too_many, has_dummy, breaks_directive, breaks_order, breaks_marking, marking_with, ends_text}
+use Rattle.astg_read.specs.Steps.{after_row, after_graph, in_graph, with_header, with_names, with_graph_row}
+use Rattle.astg_read.specs.GraphRules.{or_later}
+use Rattle.astg_read.specs.Sound.{IsSound}
+use Rattle.astg_read.specs.Taking.{line_fault, verdict, taken, IsGood, IsKept}
+use Rattle.astg_read.proofs.Verdicts.{past, stop, verdict-inside}
+use Rattle.astg_read.proofs.Takings.{verdict-said, verdict-dummies, too-taken, ends-outside, ends-inside, broken-head, end-row, dummy-row, or_later-none, after-begun, after-before}
+use Rattle.astg_read.proofs.Sounds.{sound-after, sound-marking}
+
+-- a marking with words has the graph before it, and is good
+good-some : (most : ℕ) (k : Known) (words : Row) → k.marking ≡ Some words → IsGood most k → (k.has_graph ≡ true) × (is_bad_marking most k.declared k.places words ≡ false)
+good-some most k words e g = subst (λ m. MatchOption m ⊤ (λ ws. (k.has_graph ≡ true) × (is_bad_marking most k.declared k.places ws ≡ false))) e g
+
+taken-end : (k : Known) (row : Row) → ends_text k row ≡ true → taken k row ≡ k
+taken-end k row h = stop (ends_text k row) k (after_row k row) h
+
+taken-else : (k : Known) (row : Row) → ends_text k row ≡ false → taken k row ≡ after_row k row
+taken-else k row h = past (ends_text k row) k (after_row k row) h
+
+-- the marking begins on this line
+marking-row : (row : Row) → begins (codes ".marking") row ≡ true → row ≡ codes ".marking" ∷ after_first row
+marking-row [] h = absurd (false≢true h)
+marking-row (w ∷ ws) h = ap (λ v. v ∷ ws) ((bytes_eq-Decides w (codes ".marking")).0 h)
+
+-- the tests of a line that breaks no rule
+module _ (most : ℕ) (k : Known) (row : Row) (none : line_fault most k row ≡ None) where
+  directive-false : breaks_directive row ≡ false
+  directive-false = (broken-head (breaks_directive row, UnknownDirective) (drop 1 (line_rules most k row)) none).0
+
+  order-false : breaks_order k row ≡ false
+  order-false = (broken-head (breaks_order k row, OutOfOrder) (drop 2 (line_rules most k row)) (broken-head (breaks_directive row, UnknownDirective) (drop 1 (line_rules most k row)) none).1).0
+
+-- after a closed marking only an empty line or .end is taken
+closed-row : (most : ℕ) (k : Known) (words : Row) (w : Word) (ws : Row) → k.has_graph ≡ true → k.marking ≡ Some words → line_fault most k (w ∷ ws) ≡ None → begins (codes ".end") (w ∷ ws) ≡ false → ⊥
+closed-row most k words w ws h m none e =
+    let o : ((is_header (w ∷ ws) || begins (codes ".graph") (w ∷ ws)) || (is_graph_row (w ∷ ws) || begins (codes ".marking") (w ∷ ws))) ≡ false =
+        sym (ap (λ b. (b && k.has_graph) || ((is_graph_row (w ∷ ws) || begins (codes ".marking") (w ∷ ws)) && (not k.has_graph || is_some k.marking))) refl
+          ∙ (λ j. ((is_header (w ∷ ws) || begins (codes ".graph") (w ∷ ws)) && h j) || ((is_graph_row (w ∷ ws) || begins (codes ".marking") (w ∷ ws)) && (not (h j) || is_some (m j))))
+          ∙ (λ j. and_true (is_header (w ∷ ws) || begins (codes ".graph") (w ∷ ws)) j || and_true (is_graph_row (w ∷ ws) || begins (codes ".marking") (w ∷ ws)) j))
+        ∙ order-false most k (w ∷ ws) none in
+    let p = or_parts (is_header (w ∷ ws) || begins (codes ".graph") (w ∷ ws)) (is_graph_row (w ∷ ws) || begins (codes ".marking") (w ∷ ws)) o in
+    let q = or_parts (is_graph_row (w ∷ ws)) (begins (codes ".marking") (w ∷ ws)) p.1 in
+    let d : is_directive (w ∷ ws) ≡ false =
+        sym (and_true (is_directive (w ∷ ws)))
+        ∙ sym (λ j. is_directive (w ∷ ws) && not ((p.0 j || q.1 j) || e j))
+        ∙ directive-false most k (w ∷ ws) none in
+    true≢false (sym (ap not d) ∙ q.0)
+  where
+    and_true : (b : Bool) → (b && true) ≡ b
+    and_true true = refl
+    and_true false = refl
+
+-- a test that decides between a rule and none
+test-false : (b : Bool) (r : Rule) → cond b (Some r) None ≡ None → b ≡ false
+test-false true r h = cc
+test-false false r h = refl
+
+marking-with : (k : Known) (m : Option Row) (row : Row) → k.marking ≡ m → marking_with k row ≡ cond (is_some m) (unwrap_or m [] ++ row) (after_first row)
+marking-with k m row e = ap (λ o. cond (is_some o) (unwrap_or o [] ++ row) (after_first row)) e
+
+-- inside a marking
+kept-inside : (limits : Limits) (k : Known) (words row : Row) → k.marking ≡ Some words → is_unfinished k.marking ≡ true → IsKept limits k → verdict limits k row ≡ None → IsKept limits (taken k row)
+kept-inside limits k words row e inside kept v =
+    let P : Known → Type 0 = λ q. IsKept limits q in
+    let g = good-some limits.weight k words e kept.good in
+    let bad = test-false (breaks_marking limits.weight k row) BadMarking (sym (verdict-inside limits k row inside) ∙ v) in
+    subst P (sym (taken-else k row (ends-inside k row inside) ∙ after-begun k (Some words) row g.0 e))
+      (record { few = kept.few; good = (g.0, sym (ap (is_bad_marking limits.weight k.declared k.places) (marking-with k (Some words) row e)) ∙ bad); sound = sound-marking limits.weight k (Some (words ++ row)) kept.sound })
+
+-- the counts after a line of another kind
+few-after : (limits : Limits) (k : Known) (row : Row) → has_too_many limits (taken k row) ≡ false → length (taken k row).declared.signals ≤ limits.signals
+few-after limits k row h = elim (cases_lt limits.signals (length (taken k row).declared.signals)) [
+    inl p ↦ absurd (true≢false (sym (lt-ltb limits.signals (length (taken k row).declared.signals) p) ∙ first))
+  | inr q ↦ q ]
+  where
+    first : nat_lt limits.signals (length (taken k row).declared.signals) ≡ false
+    first = (or_parts (nat_lt limits.signals (length (taken k row).declared.signals)) (nat_lt limits.trans (length (taken k row).trans))
+      (or_parts (nat_lt limits.signals (length (taken k row).declared.signals) || nat_lt limits.trans (length (taken k row).trans)) (nat_lt limits.places (length (taken k row).places))
+        (or_parts (nat_lt limits.signals (length (taken k row).declared.signals) || nat_lt limits.trans (length (taken k row).trans) || nat_lt limits.places (length (taken k row).places)) (nat_lt limits.arcs (length (arcs_in (taken k row)))) h).0).0).0
+
+-- .marking where it may stand
+begun-marking : (most : ℕ) (k : Known) (ws : Row) → k.has_graph ≡ true → k.marking ≡ None → line_fault most k (codes ".marking" ∷ ws) ≡ cond (breaks_marking most k (codes ".marking" ∷ ws)) (Some BadMarking) None
+begun-marking most k ws h e = (λ j. cond (not (h j) || is_some (e j)) (Some OutOfOrder) (cond (breaks_marking most k (codes ".marking" ∷ ws)) (Some BadMarking) None))
+
+-- the marking after a line that breaks no rule
+good-after : (most : ℕ) (k : Known) (row : Row) (m : Option Row) → k.marking ≡ m → IsGood most k → line_fault most k row ≡ None → begins (codes ".end") row ≡ false → (b : Bool) → k.has_graph ≡ b → IsGood most (after_row k row)
+good-after most k row (Some words) e g none n false h = absurd (true≢false (sym (good-some most k words e g).0 ∙ h))
+good-after most k [] (Some words) e g none n true h =
+    let s = good-some most k words e g in
+    let P : Known → Type 0 = λ q. IsGood most q in
+    subst P (sym (after-begun k (Some words) [] h e)) (h, ap (is_bad_marking most k.declared k.places) (append-nil words) ∙ s.1)
+good-after most k (w ∷ ws) (Some words) e g none n true h = absurd (closed-row most k words w ws h e none n)
+good-after most k row None e g none n false h =
+    let P : Known → Type 0 = λ q. IsGood most q in
+    subst P (sym (after-before k row h)) (by_start (begins (codes ".graph") row))
+  where
+    by_start : (b : Bool) → IsGood most (cond b (record k { has_graph = true }) (record k { declared = with_names k.declared row }))
+    by_start true = subst (λ o. MatchOption o ⊤ (λ ws. (true ≡ true) × (is_bad_marking most k.declared k.places ws ≡ false))) (sym e) tt
+    by_start false = subst (λ o. MatchOption o ⊤ (λ ws. (k.has_graph ≡ true) × (is_bad_marking most (with_names k.declared row) k.places ws ≡ false))) (sym e) tt
+good-after most k row None e g none n true h =
+    let P : Known → Type 0 = λ q. IsGood most q in
+    subst P (sym (after-begun k None row h e)) (elim (cases_Bool (begins (codes ".marking") row)) [
+      inl b ↦ subst P (sym (stop (begins (codes ".marking") row) (record k { marking = Some (after_first row) }) (cond (is_graph_row row) (with_graph_row k row) k) b)) (h, bad b)
+    | inr b ↦ subst P (sym (past (begins (codes ".marking") row) (record k { marking = Some (after_first row) }) (cond (is_graph_row row) (with_graph_row k row) k) b)) (by_kind (is_graph_row row)) ])
+  where
+    bad : begins (codes ".marking") row ≡ true → is_bad_marking most k.declared k.places (after_first row) ≡ false
+    bad b =
+        let f : cond (breaks_marking most k (codes ".marking" ∷ after_first row)) (Some BadMarking) None ≡ None =
+            sym (begun-marking most k (after_first row) h e) ∙ ap (line_fault most k) (sym (marking-row row b)) ∙ none in
+        sym (ap (is_bad_marking most k.declared k.places) (marking-with k None (codes ".marking" ∷ after_first row) e)) ∙ test-false (breaks_marking most k (codes ".marking" ∷ after_first row)) BadMarking f
+    by_kind : (b : Bool) → IsGood most (cond b (with_graph_row k row) k)
+    by_kind true = subst (λ o. MatchOption o ⊤ (λ ws. (k.has_graph ≡ true) × (is_bad_marking most k.declared (with_graph_row k row).places ws ≡ false))) (sym e) tt
+    by_kind false = subst (λ o. MatchOption o ⊤ (λ ws. (k.has_graph ≡ true) × (is_bad_marking most k.declared k.places ws ≡ false))) (sym e) tt
+
+-- outside a marking
+kept-outside : (limits : Limits) (k : Known) (row : Row) → is_unfinished k.marking ≡ false → IsKept limits k → verdict limits k row ≡ None → IsKept limits (taken k row)
+kept-outside limits k row outside kept v =
+    let P : Known → Type 0 = λ q. IsKept limits q in
+    elim (cases_Bool (ends_text k row)) [
+      inl h ↦ subst P (sym (taken-end k row h)) kept
+    | inr h ↦ elim (cases_Bool (begins (codes ".dummy") row)) [
+        inl d ↦
+          let row_is = dummy-row row d in
+          let w : verdict limits k (codes ".dummy" ∷ after_first row) ≡ None = ap (verdict limits k) (sym row_is) ∙ v in
+          let parts = or_later-none (line_fault limits.weight k (codes ".dummy" ∷ after_first row)) (cond (nat_lt 0 (length (after_first row))) (Some HasDummy) None) (sym (verdict-dummies limits k (after_first row) outside) ∙ w) in
+          let empty : after_first row ≡ [] = no_words (after_first row) (test-false (nat_lt 0 (length (after_first row))) HasDummy parts.1) in
+          let whole : row ≡ codes ".dummy" ∷ [] = row_is ∙ ap (λ ws. codes ".dummy" ∷ ws) empty in
+          let good = good-after limits.weight k (codes ".dummy" ∷ after_first row) k.marking refl kept.good parts.0 refl k.has_graph refl in
+          subst P (sym (taken-else k row h)) (record { few = few-dummy row whole; good = subst (λ r. IsGood limits.weight (after_row k r)) (sym row_is) good; sound = subst (λ r. IsSound limits.weight (after_row k r)) (sym row_is) (sound-after limits.weight k (codes ".dummy" ∷ after_first row) parts.0 kept.sound) })
+      | inr d ↦
+          let parts = or_later-none (line_fault limits.weight k row) (cond (has_too_many limits (after_row k row)) (Some TooMany) None) (sym (verdict-said limits k row outside d) ∙ v) in
+          let few : has_too_many limits (taken k row) ≡ false = sym (too-taken limits k row) ∙ test-false (has_too_many limits (after_row k row)) TooMany parts.1 in
+          (record {
+            few = few-after limits k row few;
+            good = subst (λ q. IsGood limits.weight q) (sym (taken-else k row h)) (good-after limits.weight k row k.marking refl kept.good parts.0 (sym (ends-outside k row outside) ∙ h) k.has_graph refl);
+            sound = subst (λ q. IsSound limits.weight q) (sym (taken-else k row h)) (sound-after limits.weight k row parts.0 kept.sound) }) ] ]
+  where
+    no_words : (ws : Row) → nat_lt 0 (length ws) ≡ false → ws ≡ []
+    no_words [] e = refl
+    no_words (w ∷ ws) e = absurd (true≢false (sym (lt-ltb 0 (length (w ∷ ws)) (omega arith)) ∙ e))
+    few-empty : (b : Bool) → k.has_graph ≡ b → length (after_row k (codes ".dummy" ∷ [])).declared.signals ≤ limits.signals
+    few-empty false e = subst (λ q. length q.declared.signals ≤ limits.signals) (sym (after-before k (codes ".dummy" ∷ []) e)) (subst (λ (ss : List Signal). length ss ≤ limits.signals) (sym (append-nil k.declared.signals)) kept.few)
+    few-empty true e = subst (λ q. length q.declared.signals ≤ limits.signals) (sym (after-begun k k.marking (codes ".dummy" ∷ []) e refl)) (by_marking k.marking)
+      where
+        by_marking : (m : Option Row) → length (after_graph k m (codes ".dummy" ∷ [])).declared.signals ≤ limits.signals
+        by_marking None = kept.few
+        by_marking (Some ws) = kept.few
+    few-dummy : (r : Row) → r ≡ codes ".dummy" ∷ [] → length (after_row k r).declared.signals ≤ limits.signals
+    few-dummy r e = subst (λ x. length (after_row k x).declared.signals ≤ limits.signals) (sym e) (few-empty k.has_graph refl)
+
+-- a line that breaks no rule keeps both
+pub kept-after : (limits : Limits) (k : Known) (row : Row) → IsKept limits k → verdict limits k row ≡ None → IsKept limits (taken k row)
+kept-after limits k row kept v = by_marking k.marking refl
+  where
+    by_marking : (m : Option Row) → k.marking ≡ m → IsKept limits (taken k row)
+    by_marking None e = kept-outside limits k row (ap is_unfinished e) kept v
+    by_marking (Some words) e = elim (cases_Bool (is_unfinished k.marking)) [
+        inl h ↦ kept-inside limits k words row e h kept v
+      | inr h ↦ kept-outside limits k row h kept v ]
+
+-- an empty line inside a marking breaks no rule
+pub verdict-nothing : (limits : Limits) (k : Known) → is_unfinished k.marking ≡ true → IsKept limits k → verdict limits k [] ≡ None
+verdict-nothing limits k inside kept = by_marking k.marking refl
+  where
+    by_marking : (m : Option Row) → k.marking ≡ m → verdict limits k [] ≡ None
+    by_marking None e = absurd (false≢true (sym (ap is_unfinished e) ∙ inside))
+    by_marking (Some words) e =
+        verdict-inside limits k [] inside
+        ∙ past (breaks_marking limits.weight k []) (Some BadMarking) None
+          (ap (is_bad_marking limits.weight k.declared k.places) (marking-with k (Some words) [] e ∙ append-nil words) ∙ (good-some limits.weight k words e kept.good).1)

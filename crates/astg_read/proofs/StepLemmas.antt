@@ -1,0 +1,207 @@
+-- What the lines say grows by what each further line says.
+use Rattle.std.proofs.Common.{◌≡◌, ◌+◌, ℕ, List, [], ◌∷◌, ◌++◌, Bool, true, false, cond, not, ◌||◌, ◌⊎◌, inl, inr, map, filter, flat_map, refl, sym, ap, subst, ◌∙◌, None, Some, Option, append_assoc, append-nil}
+use Rattle.std.proofs.lemmas.List.Concat.{flat_map-append}
+use Rattle.std.proofs.lemmas.List.Elements.{filter-append}
+use Rattle.std.proofs.lemmas.Bool.{cases_Bool, or_parts, false≢true}
+use Rattle.std.proofs.Common.{option_map}
+use Rattle.std.specs.Prelude.{codes}
+use Rattle.std.specs.List.{list_any}
+use Rattle.astg_read.specs.Lists.{firsts, added}
+use Rattle.astg_read.specs.Rows.{Row, begins, after_first, has_graph, header_rows, rows_after_graph, before_marking, words_of_marking, marking_words, graph_rows, is_graph_row}
+use Rattle.astg_read.specs.Header.{Declared, declared, signals_on, dummies_on}
+use Rattle.astg_read.specs.Nodes.{same_trans}
+use Rattle.astg_read.specs.Graphs.{same_place, trans_on, places_on, pairs_on, transitions, places, pairs}
+use Rattle.astg_read.specs.Known.{Known, known}
+use Rattle.astg_read.specs.Steps.{with_names, with_header, with_graph_row, in_graph, after_graph, after_row}
+
+-- the first new ones, and then the other ones
+pub firsts-append : {X : Type 0} (same : X → X → Bool) (seen xs ys : List X) → firsts same seen (xs ++ ys) ≡ firsts same (firsts same seen xs) ys
+firsts-append same seen [] ys = refl
+firsts-append same seen (x ∷ xs) ys = firsts-append same (added same seen x) xs ys
+
+abbrev is_nothing : Option Row → Type 0
+is_nothing None = Unit {0}
+is_nothing (Some x) = ⊥
+
+none_some : {x : Row} → None ≡ Some x → ⊥
+none_some e = subst is_nothing e tt
+
+abbrev is_start : Row → Bool
+is_start row = begins (codes ".graph") row
+
+any-append : (f : Row → Bool) (rows : List Row) (row : Row) → list_any f (rows ++ row ∷ []) ≡ (list_any f rows || f row)
+any-append f [] row = or_false (f row)
+  where
+    or_false : (b : Bool) → (b || false) ≡ b
+    or_false true = refl
+    or_false false = refl
+any-append f (r ∷ rows) row = ap (λ b. f r || b) (any-append f rows row) ∙ or_assoc (f r) (list_any f rows) (f row)
+  where
+    or_assoc : (a b c : Bool) → (a || (b || c)) ≡ ((a || b) || c)
+    or_assoc true b c = refl
+    or_assoc false b c = refl
+
+-- where .graph stood, nothing is added to the lines before it
+header-after : (rows : List Row) (row : Row) → has_graph rows ≡ true → header_rows (rows ++ row ∷ []) ≡ header_rows rows
+header-after [] row h = absurd (false≢true h)
+header-after (r ∷ rows) row h = elim (cases_Bool (is_start r)) [
+    inl k ↦ ap (λ b. cond b [] (r ∷ header_rows (rows ++ row ∷ []))) k ∙ sym (ap (λ b. cond b [] (r ∷ header_rows rows)) k)
+  | inr k ↦ ap (λ rs. cond (is_start r) [] (r ∷ rs)) (header-after rows row (sym (ap (λ b. b || has_graph rows) k) ∙ h)) ]
+
+after-after : (rows : List Row) (row : Row) → has_graph rows ≡ true → rows_after_graph (rows ++ row ∷ []) ≡ rows_after_graph rows ++ row ∷ []
+after-after [] row h = absurd (false≢true h)
+after-after (r ∷ rows) row h = elim (cases_Bool (is_start r)) [
+    inl k ↦ ap (λ b. cond b (rows ++ row ∷ []) (rows_after_graph (rows ++ row ∷ []))) k ∙ sym (ap (λ b. cond b rows (rows_after_graph rows) ++ row ∷ []) k)
+  | inr k ↦ ap (λ b. cond b (rows ++ row ∷ []) (rows_after_graph (rows ++ row ∷ []))) k ∙ after-after rows row (sym (ap (λ b. b || has_graph rows) k) ∙ h) ∙ sym (ap (λ b. cond b rows (rows_after_graph rows) ++ row ∷ []) k) ]
+
+-- where it didn't, the line joins the lines before it or is .graph itself
+header-before : (rows : List Row) (row : Row) → has_graph rows ≡ false → header_rows (rows ++ row ∷ []) ≡ rows ++ cond (is_start row) [] (row ∷ [])
+header-before [] row h = refl
+header-before (r ∷ rows) row h = let k = (or_parts (is_start r) (has_graph rows) h) in
+    ap (λ b. cond b [] (r ∷ header_rows (rows ++ row ∷ []))) k.0 ∙ ap (λ rs. r ∷ rs) (header-before rows row k.1)
+
+header-all : (rows : List Row) → has_graph rows ≡ false → header_rows rows ≡ rows
+header-all [] h = refl
+header-all (r ∷ rows) h = let k = (or_parts (is_start r) (has_graph rows) h) in
+    ap (λ b. cond b [] (r ∷ header_rows rows)) k.0 ∙ ap (λ rs. r ∷ rs) (header-all rows k.1)
+
+after-none : (rows : List Row) → has_graph rows ≡ false → rows_after_graph rows ≡ []
+after-none [] h = refl
+after-none (r ∷ rows) h = let k = (or_parts (is_start r) (has_graph rows) h) in
+    ap (λ b. cond b rows (rows_after_graph rows)) k.0 ∙ after-none rows k.1
+
+cond_same : (b : Bool) (rows : List Row) → cond b rows rows ≡ rows
+cond_same true rows = refl
+cond_same false rows = refl
+
+after-before : (rows : List Row) (row : Row) → has_graph rows ≡ false → rows_after_graph (rows ++ row ∷ []) ≡ []
+after-before [] row h = cond_same (is_start row) []
+after-before (r ∷ rows) row h = let k = (or_parts (is_start r) (has_graph rows) h) in
+    ap (λ b. cond b (rows ++ row ∷ []) (rows_after_graph (rows ++ row ∷ []))) k.0 ∙ after-before rows row k.1
+
+abbrev is_marking : Row → Bool
+is_marking row = begins (codes ".marking") row
+
+-- before the marking
+marking-before : (rows : List Row) (row : Row) → words_of_marking rows ≡ None → before_marking (rows ++ row ∷ []) ≡ before_marking rows ++ cond (is_marking row) [] (row ∷ [])
+marking-before [] row h = refl
+marking-before (r ∷ rows) row h = elim (cases_Bool (is_marking r)) [
+    inl k ↦ absurd (none_some (sym h ∙ ap (λ b. cond b (Some (after_first r ++ flat_map (λ x. x) rows)) (words_of_marking rows)) k))
+  | inr k ↦ ap (λ b. cond b [] (r ∷ before_marking (rows ++ row ∷ []))) k ∙ ap (λ rs. r ∷ rs) (marking-before rows row (sym (ap (λ b. cond b (Some (after_first r ++ flat_map (λ x. x) rows)) (words_of_marking rows)) k) ∙ h)) ∙ sym (ap (λ b. cond b [] (r ∷ before_marking rows) ++ cond (is_marking row) [] (row ∷ [])) k) ]
+
+words-before : (rows : List Row) (row : Row) → words_of_marking rows ≡ None → words_of_marking (rows ++ row ∷ []) ≡ cond (is_marking row) (Some (after_first row)) None
+words-before [] row h = ap (λ ws. cond (is_marking row) (Some ws) None) (append-nil (after_first row))
+words-before (r ∷ rows) row h = elim (cases_Bool (is_marking r)) [
+    inl k ↦ absurd (none_some (sym h ∙ ap (λ b. cond b (Some (after_first r ++ flat_map (λ x. x) rows)) (words_of_marking rows)) k))
+  | inr k ↦ ap (λ b. cond b (Some (after_first r ++ flat_map (λ x. x) (rows ++ row ∷ []))) (words_of_marking (rows ++ row ∷ []))) k ∙ words-before rows row (sym (ap (λ b. cond b (Some (after_first r ++ flat_map (λ x. x) rows)) (words_of_marking rows)) k) ∙ h) ]
+
+-- in the marking
+marking-after : (rows : List Row) (row : Row) (words : Row) → words_of_marking rows ≡ Some words → before_marking (rows ++ row ∷ []) ≡ before_marking rows
+marking-after [] row words h = absurd (none_some h)
+marking-after (r ∷ rows) row words h = elim (cases_Bool (is_marking r)) [
+    inl k ↦ ap (λ b. cond b [] (r ∷ before_marking (rows ++ row ∷ []))) k ∙ sym (ap (λ b. cond b [] (r ∷ before_marking rows)) k)
+  | inr k ↦ ap (λ rs. cond (is_marking r) [] (r ∷ rs)) (marking-after rows row words (sym (ap (λ b. cond b (Some (after_first r ++ flat_map (λ x. x) rows)) (words_of_marking rows)) k) ∙ h)) ]
+
+join-more : (rows : List Row) (row : Row) → flat_map (λ x. x) (rows ++ row ∷ []) ≡ flat_map (λ x. x) rows ++ row
+join-more [] row = append-nil row
+join-more (r ∷ rows) row = ap (λ ws. r ++ ws) (join-more rows row) ∙ sym (append_assoc r (flat_map (λ x. x) rows) row)
+
+words-after : (rows : List Row) (row : Row) (words : Row) → words_of_marking rows ≡ Some words → words_of_marking (rows ++ row ∷ []) ≡ Some (words ++ row)
+words-after [] row words h = absurd (none_some h)
+words-after (r ∷ rows) row words h = elim (cases_Bool (is_marking r)) [
+    inl k ↦ ap (λ b. cond b (Some (after_first r ++ flat_map (λ x. x) (rows ++ row ∷ []))) (words_of_marking (rows ++ row ∷ []))) k
+        ∙ ap (λ ws. Some (after_first r ++ ws)) (join-more rows row) ∙ ap Some (sym (append_assoc (after_first r) (flat_map (λ x. x) rows) row))
+        ∙ ap (option_map (λ ws. ws ++ row)) (sym (ap (λ b. cond b (Some (after_first r ++ flat_map (λ x. x) rows)) (words_of_marking rows)) k) ∙ h)
+  | inr k ↦ ap (λ b. cond b (Some (after_first r ++ flat_map (λ x. x) (rows ++ row ∷ []))) (words_of_marking (rows ++ row ∷ []))) k ∙ words-after rows row words (sym (ap (λ b. cond b (Some (after_first r ++ flat_map (λ x. x) rows)) (words_of_marking rows)) k) ∙ h) ]
+
+-- what is known of these four
+abbrev known_by : Bool → Declared → List Row → Option Row → Known
+known_by graph_stood d graph words = record {
+    has_graph = graph_stood; declared = d; trans = transitions d graph; places = places d graph; pairs = pairs d graph; marking = words }
+
+same_known : (b c : Bool) (ss ts : Declared) (rs qs : List Row) (v w : Option Row) → b ≡ c → ss ≡ ts → rs ≡ qs → v ≡ w → known_by b ss rs v ≡ known_by c ts qs w
+same_known b c ss ts rs qs v w p q r s = λ j. known_by (p j) (q j) (r j) (s j)
+
+-- what these lines declare
+abbrev by_rows : List Row → Declared
+by_rows rows = record { signals = flat_map signals_on rows; dummies = flat_map dummies_on rows }
+
+-- what is declared grows by one line
+by_rows-after : (rows : List Row) (row : Row) → by_rows (rows ++ row ∷ []) ≡ with_names (by_rows rows) row
+by_rows-after rows row =
+    let s = flat_map-append signals_on rows (row ∷ []) ∙ ap (λ ss. flat_map signals_on rows ++ ss) (append-nil (signals_on row)) in
+    let t = flat_map-append dummies_on rows (row ∷ []) ∙ ap (λ ss. flat_map dummies_on rows ++ ss) (append-nil (dummies_on row)) in
+    (λ j. record { signals = s j; dummies = t j })
+
+abbrev Grows : List Row → Row → Type 0
+Grows rows row = known (rows ++ row ∷ []) ≡ after_row (known rows) row
+
+grows-header : (rows : List Row) (row : Row) → has_graph rows ≡ false → Grows rows row
+grows-header rows row h =
+    let graph : graph_rows (rows ++ row ∷ []) ≡ graph_rows rows = ap (λ rs. filter is_graph_row (before_marking rs)) (after-before rows row h ∙ sym (after-none rows h)) in
+    let words : marking_words (rows ++ row ∷ []) ≡ marking_words rows = ap words_of_marking (after-before rows row h ∙ sym (after-none rows h)) in
+    let names : declared rows ≡ by_rows rows = ap by_rows (header-all rows h) in
+    let whole = ap (λ b. cond b (after_graph (known rows) (marking_words rows) row) (with_header (known rows) row)) h in
+    elim (cases_Bool (is_start row)) [
+      inl k ↦ same_known (has_graph (rows ++ row ∷ [])) true (declared (rows ++ row ∷ [])) (declared rows) (graph_rows (rows ++ row ∷ [])) (graph_rows rows) (marking_words (rows ++ row ∷ [])) (marking_words rows)
+          (any-append is_start rows row ∙ ap (λ b. b || is_start row) h ∙ k)
+          (ap by_rows (header-before rows row h) ∙ ap (λ b. by_rows (rows ++ cond b [] (row ∷ []))) k ∙ ap by_rows (append-nil rows) ∙ sym names)
+          graph words
+        ∙ sym (whole ∙ ap (λ b. cond b (record (known rows) { has_graph = true }) (record (known rows) { declared = with_names (declared rows) row })) k)
+    | inr k ↦
+        let none : graph_rows rows ≡ [] = ap (λ rs. filter is_graph_row (before_marking rs)) (after-none rows h) in
+        same_known (has_graph (rows ++ row ∷ [])) (has_graph rows) (declared (rows ++ row ∷ [])) (with_names (declared rows) row) (graph_rows (rows ++ row ∷ [])) [] (marking_words (rows ++ row ∷ [])) (marking_words rows)
+          (any-append is_start rows row ∙ ap (λ b. b || is_start row) h ∙ k ∙ sym h)
+          (ap by_rows (header-before rows row h) ∙ ap (λ b. by_rows (rows ++ cond b [] (row ∷ []))) k ∙ by_rows-after rows row ∙ ap (λ d. with_names d row) (sym names))
+          (graph ∙ none) words
+        ∙ ap (λ g. record (known_by (has_graph rows) (declared rows) g (marking_words rows)) { declared = with_names (declared rows) row }) (sym none)
+        ∙ sym (whole ∙ ap (λ b. cond b (record (known rows) { has_graph = true }) (record (known rows) { declared = with_names (declared rows) row })) k) ]
+
+-- a line of the graph adds its transitions, places and pairs
+graph-more : (signals : Declared) (graph : List Row) (row : Row) (b : Bool) (words : Option Row) → known_by b signals (graph ++ row ∷ []) words ≡ with_graph_row (known_by b signals graph words) row
+graph-more signals graph row b words =
+    let t : transitions signals (graph ++ row ∷ []) ≡ firsts same_trans (transitions signals graph) (trans_on signals row) = ap (firsts same_trans []) (flat_map-append (trans_on signals) graph (row ∷ []) ∙ ap (λ ts. flat_map (trans_on signals) graph ++ ts) (append-nil (trans_on signals row))) ∙ firsts-append same_trans [] (flat_map (trans_on signals) graph) (trans_on signals row) in
+    let p : places signals (graph ++ row ∷ []) ≡ firsts same_place (places signals graph) (places_on signals row) = ap (firsts same_place []) (flat_map-append (places_on signals) graph (row ∷ []) ∙ ap (λ ts. flat_map (places_on signals) graph ++ ts) (append-nil (places_on signals row))) ∙ firsts-append same_place [] (flat_map (places_on signals) graph) (places_on signals row) in
+    let a : pairs signals (graph ++ row ∷ []) ≡ pairs signals graph ++ pairs_on signals row = flat_map-append (pairs_on signals) graph (row ∷ []) ∙ ap (λ ts. pairs signals graph ++ ts) (append-nil (pairs_on signals row)) in
+    (λ j. record { has_graph = b; declared = signals; trans = t j; places = p j; pairs = a j; marking = words })
+
+grows-graph : (rows : List Row) (row : Row) → has_graph rows ≡ true → (words : Option Row) → words_of_marking (rows_after_graph rows) ≡ words → Grows rows row
+grows-graph rows row h (Some words) e =
+    let after = after-after rows row h in
+    same_known (has_graph (rows ++ row ∷ [])) (has_graph rows) (declared (rows ++ row ∷ [])) (declared rows) (graph_rows (rows ++ row ∷ [])) (graph_rows rows) (marking_words (rows ++ row ∷ [])) (Some (words ++ row))
+        (any-append is_start rows row ∙ ap (λ b. b || is_start row) h ∙ sym h)
+        (ap by_rows (header-after rows row h))
+        (ap (λ rs. filter is_graph_row (before_marking rs)) after ∙ ap (filter is_graph_row) (marking-after (rows_after_graph rows) row words e))
+        (ap words_of_marking after ∙ words-after (rows_after_graph rows) row words e)
+    ∙ sym (ap (λ b. cond b (after_graph (known rows) (marking_words rows) row) (with_header (known rows) row)) h ∙ ap (λ w. after_graph (known rows) w row) e)
+grows-graph rows row h None e =
+    let after = after-after rows row h in
+    let whole = ap (λ b. cond b (after_graph (known rows) (marking_words rows) row) (with_header (known rows) row)) h ∙ ap (λ w. after_graph (known rows) w row) e in
+    let stood : has_graph (rows ++ row ∷ []) ≡ has_graph rows = any-append is_start rows row ∙ ap (λ b. b || is_start row) h ∙ sym h in
+    let signals : declared (rows ++ row ∷ []) ≡ declared rows = ap by_rows (header-after rows row h) in
+    let graph : graph_rows (rows ++ row ∷ []) ≡ graph_rows rows ++ filter is_graph_row (cond (is_marking row) [] (row ∷ [])) =
+        ap (λ rs. filter is_graph_row (before_marking rs)) after ∙ ap (filter is_graph_row) (marking-before (rows_after_graph rows) row e) ∙ filter-append is_graph_row (before_marking (rows_after_graph rows)) (cond (is_marking row) [] (row ∷ [])) in
+    let words : marking_words (rows ++ row ∷ []) ≡ cond (is_marking row) (Some (after_first row)) None = ap words_of_marking after ∙ words-before (rows_after_graph rows) row e in
+    elim (cases_Bool (is_marking row)) [
+      inl k ↦ same_known (has_graph (rows ++ row ∷ [])) (has_graph rows) (declared (rows ++ row ∷ [])) (declared rows) (graph_rows (rows ++ row ∷ [])) (graph_rows rows) (marking_words (rows ++ row ∷ [])) (Some (after_first row))
+          stood signals
+          (graph ∙ ap (λ b. graph_rows rows ++ filter is_graph_row (cond b [] (row ∷ []))) k ∙ append-nil (graph_rows rows))
+          (words ∙ ap (λ b. cond b (Some (after_first row)) None) k)
+        ∙ sym (whole ∙ ap (λ b. cond b (record (known rows) { marking = Some (after_first row) }) (cond (is_graph_row row) (with_graph_row (known rows) row) (known rows))) k)
+    | inr k ↦
+        let others = ap (λ b. cond b (record (known rows) { marking = Some (after_first row) }) (cond (is_graph_row row) (with_graph_row (known rows) row) (known rows))) k in
+        let unmarked = words ∙ ap (λ b. cond b (Some (after_first row)) None) k ∙ sym e in
+        elim (cases_Bool (is_graph_row row)) [
+          inl g ↦ same_known (has_graph (rows ++ row ∷ [])) (has_graph rows) (declared (rows ++ row ∷ [])) (declared rows) (graph_rows (rows ++ row ∷ [])) (graph_rows rows ++ row ∷ []) (marking_words (rows ++ row ∷ [])) (marking_words rows)
+              stood signals (graph ∙ ap (λ b. graph_rows rows ++ filter is_graph_row (cond b [] (row ∷ []))) k ∙ ap (λ b. graph_rows rows ++ cond b (row ∷ []) []) g) unmarked
+            ∙ graph-more (declared rows) (graph_rows rows) row (has_graph rows) (marking_words rows)
+            ∙ sym (whole ∙ others ∙ ap (λ b. cond b (with_graph_row (known rows) row) (known rows)) g)
+        | inr g ↦ same_known (has_graph (rows ++ row ∷ [])) (has_graph rows) (declared (rows ++ row ∷ [])) (declared rows) (graph_rows (rows ++ row ∷ [])) (graph_rows rows) (marking_words (rows ++ row ∷ [])) (marking_words rows)
+              stood signals (graph ∙ ap (λ b. graph_rows rows ++ filter is_graph_row (cond b [] (row ∷ []))) k ∙ ap (λ b. graph_rows rows ++ cond b (row ∷ []) []) g ∙ append-nil (graph_rows rows)) unmarked
+            ∙ sym (whole ∙ others ∙ ap (λ b. cond b (with_graph_row (known rows) row) (known rows)) g) ] ]
+
+-- what the lines say with one more is what they said, and what that one says
+pub known-after : (rows : List Row) (row : Row) → known (rows ++ row ∷ []) ≡ after_row (known rows) row
+known-after rows row = elim (cases_Bool (has_graph rows)) [
+    inl h ↦ grows-graph rows row h (words_of_marking (rows_after_graph rows)) refl
+  | inr h ↦ grows-header rows row h ]

@@ -1,0 +1,56 @@
+-- What holds of the lists that lines without a fault make.
+use Rattle.std.specs.Prelude.{◌≡◌, ℕ, Bool, true, false, ◌&&◌, nat_lt, List, [], ◌∷◌, length, Some}
+use Rattle.std.specs.List.{list_all, list_any}
+use Rattle.std.specs.Option.{option_map_or}
+use Rattle.stg_net.specs.declared.signal.Signal.{Signal}
+use Rattle.stg_net.specs.declared.trans.TransName.{TransName}
+use Rattle.stg_net.specs.Names.{is_name}
+use Rattle.astg_read.specs.Lists.{stands_again}
+use Rattle.astg_read.specs.Header.{same_name}
+use Rattle.astg_read.specs.Nodes.{Node, Trans, Place, same_trans}
+use Rattle.astg_read.specs.Targets.{is_weight}
+use Rattle.astg_read.specs.Graphs.{Pair, PlaceAt, Named, Between, same_pair, same_place}
+use Rattle.astg_read.specs.Known.{Known}
+
+-- the signal of the transition is one of so many, and its index has at most nine digits
+abbrev pub is_trans_in : ℕ → TransName → Bool
+is_trans_in signals t = nat_lt t.signal signals && nat_lt t.index 1000000000
+
+-- the name of the signal has its form
+abbrev pub is_named : Signal → Bool
+is_named s = is_name s.name
+
+-- the pair has no weight, or one from 1 to the limit
+abbrev pub is_weighed : ℕ → Pair → Bool
+is_weighed most p = option_map_or (λ w. is_weight most (Some w)) p.weight true
+
+-- a node is among the transitions or the places
+abbrev pub IsNodeIn : List TransName → List PlaceAt → Node → Type 0
+IsNodeIn trans all (Trans t) = list_any (same_trans t) trans ≡ true
+IsNodeIn trans all (Place p) = list_any (same_place (Named p)) all ≡ true
+
+-- the place between two nodes is among the places, where both are transitions
+abbrev pub IsBetweenIn : List PlaceAt → Node → Node → Type 0
+IsBetweenIn all (Trans t) (Trans u) = list_any (same_place (Between t u)) all ≡ true
+IsBetweenIn all m n = Unit {0}
+
+-- both nodes of a pair are there, and the place between them
+pub record IsPairIn (trans : List TransName) (all : List PlaceAt) (p : Pair) : Type 0 where
+  pub source_there : IsNodeIn trans all p.source
+  pub target_there : IsNodeIn trans all p.target
+  pub between_there : IsBetweenIn all p.source p.target
+
+-- that of each pair
+abbrev pub ArePairsIn : List TransName → List PlaceAt → List Pair → Type 0
+ArePairsIn trans all [] = Unit {0}
+ArePairsIn trans all (p ∷ ps) = IsPairIn trans all p × ArePairsIn trans all ps
+
+-- names have their form and differ, as do transitions and pairs; numbers are there, and weights within the limit
+pub record IsSound (most : ℕ) (k : Known) : Type 0 where
+  pub named : list_all is_named k.declared.signals ≡ true
+  pub names_differ : stands_again same_name [] k.declared.signals ≡ false
+  pub trans_differ : stands_again same_trans [] k.trans ≡ false
+  pub trans_there : list_all (is_trans_in (length k.declared.signals)) k.trans ≡ true
+  pub weighed : list_all (is_weighed most) k.pairs ≡ true
+  pub pairs_there : ArePairsIn k.trans k.places k.pairs
+  pub pairs_differ : stands_again same_pair [] k.pairs ≡ false

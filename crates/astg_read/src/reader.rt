@@ -1,0 +1,418 @@
+//! What the lines say, line by line.
+
+ghost use Rattle.std.specs.Prelude.{◌≡◌, ◌++◌, ◌∷◌, [], ◌<◌, ◌≤◌, ◌^◌, not, length, codes, true, false, None, nat_lt, IfOk, IsTrue, ◌⊎◌};
+ghost use Rattle.std.specs.List.{list_all, list_any};
+ghost use Rattle.stg_net.specs.Names as forms;
+ghost use Rattle.astg_read.specs.Header.{same_name, signals_of, without_dummies};
+ghost use Rattle.astg_read.specs.Graphs.{arcs, same_pair};
+ghost use Rattle.astg_read.specs.Lists.{stands_again};
+ghost use Rattle.astg_read.specs.Markings.{is_bad_marking, is_unfinished};
+ghost use Rattle.astg_read.specs.Rows.{begins, begins_with_dot};
+ghost use Rattle.astg_read.specs.Shown.{texts, shown_pairs, shown_targets};
+ghost use Rattle.astg_read.specs.Steps.{with_pairs};
+ghost use Rattle.astg_read.specs.Taking.{Says, Takes, Marks, IsKept, nothing, known_of, directive, counted};
+ghost use Rattle.astg_read.specs.Targets.{words_in};
+ghost use Rattle.astg_read.specs.GraphRules as rules;
+ghost use Rattle.astg_read.specs.Rules as line_rules;
+
+use crate::graph::Graph;
+use crate::kinds::{LineKind, kind_of};
+use crate::line_error::LineError;
+use crate::marking::Marking;
+use crate::names::is_name;
+use crate::nodes::{is_node, is_signal, is_unknown, node_of};
+use crate::pairs::{Pair, join_places, pairs_of, weigh_trans};
+use crate::signals::Signals;
+use crate::targets::{Target, are_nodes, are_weighed, have_signal, have_unknown, targets_of};
+use crate::Rule;
+use astg_lex::Word;
+use std::alloc::Global;
+use stg_net::{Kind, Limits, NoMemory};
+
+/// What the lines so far say, in a text without dummies.
+#[derive(Drop)]
+pub struct Reader<'a> {
+    pub alloc: Global,
+    pub has_graph: bool,
+    pub signals: Signals<'a>,
+    pub graph: Graph<'a>,
+    pub marking: Option<Marking<'a>>,
+}
+
+fn are_names(words: &[Word<'_>]) -> bool
+    ensures { result ≡ list_all forms.is_name (texts words.now) }
+{
+    for word in words {
+        if !is_name(word.text) {
+            return false;
+        }
+    }
+    true
+}
+
+/// Adds signals until a name stands again, and tells whether all are new.
+fn add_names<'a>(
+    signals: &mut Signals<'a>,
+    kind: Kind,
+    names: &[Word<'a>],
+) -> Result<bool, NoMemory>
+    ensures fresh { IfOk result (λ all_new. all_new ≡ not (stands_again same_name signals.old (signals_of kind (texts names.now)))) }
+    ensures ok { IfOk result (λ all_new. IsTrue all_new → signals.new ≡ signals.old ++ signals_of kind (texts names.now)) }
+{
+    for name in names {
+        if !signals.add(name.text, kind)? {
+            return Ok(false);
+        }
+    }
+    Ok(true)
+}
+
+/// Adds pairs until one stands again, and tells whether all are new.
+fn add_pairs<'a>(graph: &mut Graph<'a>, pairs: &[Pair<'a>]) -> Result<bool, NoMemory>
+    ensures fresh { IfOk result (λ all_new. all_new ≡ not (stands_again same_pair graph.old.pairs (shown_pairs pairs.now))) }
+    ensures ok { IfOk result (λ all_new. IsTrue all_new → graph.new ≡ with_pairs graph.old (shown_pairs pairs.now)) }
+{
+    for pair in pairs {
+        if !graph.add_pair(pair)? {
+            return Ok(false);
+        }
+    }
+    Ok(true)
+}
+
+/// Adds the pairs of a line, or tells the rule that they or their targets break first.
+fn add_new_pairs<'a>(
+    graph: &mut Graph<'a>,
+    most: u32,
+    targets: &[Target<'_, 'a>],
+    pairs: &[Pair<'a>],
+) -> Result<Option<Rule>, NoMemory>
+    ensures fault { IfOk result (λ fault. fault ≡ rules.pair_fault most graph.old.pairs (shown_pairs pairs.now) (shown_targets targets.now)) }
+    ensures ok { IfOk result (λ fault. fault ≡ None → graph.new ≡ with_pairs graph.old (shown_pairs pairs.now)) }
+{
+    if join_places(pairs) {
+        return Ok(Some(Rule::BadArc));
+    }
+    if !add_pairs(graph, pairs)? {
+        return Ok(Some(Rule::RepeatedArc));
+    }
+    if !are_weighed(most, targets) || weigh_trans(pairs) {
+        return Ok(Some(Rule::BadWeight));
+    }
+    Ok(None)
+}
+
+/// The rule that the words of a source and its targets break first.
+fn name_fault(signals: &Signals<'_>, source: &[u8], targets: &[Target<'_, '_>]) -> Option<Rule>
+    requires { length signals.now < 2 ^ 32 }
+    ensures { result ≡ rules.name_fault (without_dummies signals.now) (source.now ∷ words_in (shown_targets targets.now)) }
+{
+    if !is_node(source) || !are_nodes(targets) {
+        Some(Rule::BadName)
+    } else if is_unknown(signals, source) || have_unknown(signals, targets) {
+        Some(Rule::UnknownSignal)
+    } else if is_signal(signals, source) || have_signal(signals, targets) {
+        Some(Rule::NoEdge)
+    } else {
+        None
+    }
+}
+
+fn has_too_many_arcs(graph: &Graph<'_>, limits: &Limits) -> bool
+    ensures { result ≡ nat_lt limits.now.arcs (length (arcs graph.now.trans graph.now.places graph.now.pairs)) }
+{
+    graph.arc_count() > limits.arcs as u64
+}
+
+fn is_end(words: &[Word<'_>]) -> bool
+    ensures { result ≡ begins (codes ".end") (texts words.now) }
+{
+    match words {
+        [] => false,
+        [first, ..] => first.text == b".end".as_slice(),
+    }
+}
+
+impl<'a> Reader<'a> {
+    /// A reader before the first line.
+    pub fn new(alloc: Global) -> Self
+        ensures { known_of result ≡ nothing }
+    {
+        Reader {
+            alloc,
+            has_graph: false,
+            signals: Signals::new(alloc),
+            graph: Graph::new(alloc),
+            marking: None,
+        }
+    }
+
+    /// Takes a title, which isn't kept.
+    fn take_title(&mut self, most: u32, title: &[u8], words: &[Word<'a>]) -> Result<(), LineError>
+        requires { (title.now ≡ codes ".model") ⊎ (title.now ≡ codes ".name") }
+        ensures { Says most (known_of self.old) (title.now ∷ texts words.now) result (known_of self.new) }
+    {
+        if self.has_graph {
+            return Err(LineError::Broken(Rule::OutOfOrder));
+        }
+        Ok(())
+    }
+
+    /// Takes a line that declares signals of a kind.
+    fn take_names(&mut self, most: u32, kind: Kind, names: &[Word<'a>]) -> Result<(), LineError>
+        ensures { Says most (known_of self.old) (directive kind ∷ texts names.now) result (known_of self.new) }
+    {
+        if self.has_graph {
+            return Err(LineError::Broken(Rule::OutOfOrder));
+        }
+        if !are_names(names) {
+            return Err(LineError::Broken(Rule::BadName));
+        }
+        if !add_names(&mut self.signals, kind, names)? {
+            return Err(LineError::Broken(Rule::DeclaredTwice));
+        }
+        Ok(())
+    }
+
+    /// Takes `.graph`.
+    fn take_graph(&mut self, most: u32, words: &[Word<'a>]) -> Result<(), LineError>
+        ensures { Says most (known_of self.old) (codes ".graph" ∷ texts words.now) result (known_of self.new) }
+    {
+        if self.has_graph {
+            return Err(LineError::Broken(Rule::OutOfOrder));
+        }
+        if !words.is_empty() {
+            return Err(LineError::Broken(Rule::BadName));
+        }
+        self.has_graph = true;
+        Ok(())
+    }
+
+    /// Takes a line of the graph.
+    fn take_nodes(
+        &mut self,
+        most: u32,
+        source: &'a [u8],
+        words: &[Word<'a>],
+    ) -> Result<(), LineError>
+        requires few { length self.old.signals < 2 ^ 32 }
+        requires nodes { begins_with_dot source.now ≡ false }
+        ensures { Says most (known_of self.old) (source.now ∷ texts words.now) result (known_of self.new) }
+    {
+        if !self.has_graph || self.marking.is_some() {
+            return Err(LineError::Broken(Rule::OutOfOrder));
+        }
+        let targets = targets_of(self.alloc, words)?;
+        if let Some(rule) = name_fault(&self.signals, source, targets.as_slice()) {
+            return Err(LineError::Broken(rule));
+        }
+        let pairs = pairs_of(self.alloc, &self.signals, source, targets.as_slice())?;
+        if let Some(rule) = add_new_pairs(
+            &mut self.graph,
+            most,
+            targets.as_slice(),
+            pairs.as_slice(),
+        )? {
+            return Err(LineError::Broken(rule));
+        }
+        self.graph.add_node(&node_of(&self.signals, source))?;
+        self.graph.add_targets(pairs.as_slice())?;
+        Ok(())
+    }
+
+    /// Takes `.marking`.
+    fn take_marking(&mut self, most: u32, words: &[Word<'a>]) -> Result<(), LineError>
+        requires few { length self.old.signals < 2 ^ 32 }
+        ensures { Says most (known_of self.old) (codes ".marking" ∷ texts words.now) result (known_of self.new) }
+    {
+        if !self.has_graph || self.marking.is_some() {
+            return Err(LineError::Broken(Rule::OutOfOrder));
+        }
+        let mut marking = Marking::new(self.alloc);
+        marking.extend(words)?;
+        if marking.is_bad(self.alloc, most, &self.signals, &self.graph)? {
+            return Err(LineError::Broken(Rule::BadMarking));
+        }
+        self.marking = Some(marking);
+        Ok(())
+    }
+
+    /// Takes `.end`.
+    fn take_end(&mut self, most: u32, words: &[Word<'a>]) -> Result<(), LineError>
+        requires { is_unfinished (known_of self.old).marking ≡ false }
+        ensures { Says most (known_of self.old) (codes ".end" ∷ texts words.now) result (known_of self.new) }
+    {
+        if !self.has_graph {
+            return Err(LineError::Broken(Rule::NoGraph));
+        }
+        Ok(())
+    }
+
+    /// Whether there are too many of a kind.
+    fn has_too_many(&self, limits: &Limits) -> bool
+        ensures { result ≡ line_rules.has_too_many limits.now (known_of self.now) }
+    {
+        self.signals.len() > limits.signals as usize
+            || self.graph.trans_count() > limits.trans as usize
+            || self.graph.place_count() > limits.places as usize
+            || has_too_many_arcs(&self.graph, limits)
+    }
+
+    fn count(&self, limits: &Limits, said: Result<(), LineError>) -> Result<(), LineError>
+        ensures { result ≡ counted (line_rules.has_too_many limits.now (known_of self.now)) said }
+    {
+        match said {
+            Ok(()) => {
+                if self.has_too_many(limits) {
+                    Err(LineError::Broken(Rule::TooMany))
+                } else {
+                    Ok(())
+                }
+            }
+            Err(error) => Err(error),
+        }
+    }
+
+    /// Takes a line that declares dummies, which may have no names.
+    fn take_dummies(&mut self, limits: &Limits, names: &[Word<'a>]) -> Result<(), LineError>
+        requires { is_unfinished (known_of self.old).marking ≡ false }
+        ensures { Takes limits.now (known_of self.old) (codes ".dummy" ∷ texts names.now) result (known_of self.new) }
+    {
+        if self.has_graph {
+            return Err(LineError::Broken(Rule::OutOfOrder));
+        }
+        if !are_names(names) {
+            return Err(LineError::Broken(Rule::BadName));
+        }
+        if names.is_empty() {
+            return Ok(());
+        }
+        if !add_names(&mut self.signals, Kind::Internal, names)? {
+            return Err(LineError::Broken(Rule::DeclaredTwice));
+        }
+        Err(LineError::Broken(Rule::HasDummy))
+    }
+
+    fn is_in_marking(&self) -> bool
+        ensures { result ≡ is_unfinished (known_of self.now).marking }
+    {
+        match &self.marking {
+            None => false,
+            Some(marking) => !marking.is_closed(),
+        }
+    }
+
+    /// Whether a line ends the text.
+    pub fn ends_text(&self, words: &[Word<'_>]) -> bool
+        ensures { result ≡ line_rules.ends_text (known_of self.now) (texts words.now) }
+    {
+        is_end(words) && !self.is_in_marking()
+    }
+
+    /// Takes a line inside a marking.
+    fn take_marked(&mut self, limits: &Limits, words: &[Word<'a>]) -> Result<(), LineError>
+        requires small { length self.old.signals < 2 ^ 32 }
+        requires kept { IsKept limits.now (known_of self.old) }
+        requires inside { is_unfinished (known_of self.old).marking ≡ true }
+        ensures { Takes limits.now (known_of self.old) (texts words.now) result (known_of self.new) }
+    {
+        if words.is_empty() {
+            return Ok(());
+        }
+        match &mut self.marking {
+            None => Ok(()),
+            Some(marking) => extend_marking(
+                self.alloc,
+                limits.weight,
+                &self.signals,
+                &self.graph,
+                marking,
+                words,
+            ),
+        }
+    }
+
+    /// Takes a line outside a marking by its first word and the others.
+    fn take_words(
+        &mut self,
+        limits: &Limits,
+        first: &'a [u8],
+        rest: &[Word<'a>],
+    ) -> Result<(), LineError>
+        requires small { length self.old.signals < 2 ^ 32 }
+        requires outside { is_unfinished (known_of self.old).marking ≡ false }
+        ensures { Takes limits.now (known_of self.old) (first.now ∷ texts rest.now) result (known_of self.new) }
+    {
+        let most = limits.weight;
+        match kind_of(first) {
+            LineKind::Dummies => self.take_dummies(limits, rest),
+            LineKind::Title => {
+                let said = self.take_title(most, first, rest);
+                self.count(limits, said)
+            }
+            LineKind::Names(kind) => {
+                let said = self.take_names(most, kind, rest);
+                self.count(limits, said)
+            }
+            LineKind::Graph => {
+                let said = self.take_graph(most, rest);
+                self.count(limits, said)
+            }
+            LineKind::Marking => {
+                let said = self.take_marking(most, rest);
+                self.count(limits, said)
+            }
+            LineKind::End => {
+                let said = self.take_end(most, rest);
+                self.count(limits, said)
+            }
+            LineKind::Unknown => Err(LineError::Broken(Rule::UnknownDirective)),
+            LineKind::Nodes => {
+                let said = self.take_nodes(most, first, rest);
+                self.count(limits, said)
+            }
+        }
+    }
+
+    /// Takes a line without words outside a marking.
+    fn take_nothing(&mut self, limits: &Limits) -> Result<(), LineError>
+        requires { is_unfinished (known_of self.old).marking ≡ false }
+        ensures { Takes limits.now (known_of self.old) [] result (known_of self.new) }
+    {
+        self.count(limits, Ok(()))
+    }
+
+    /// Takes the next line, or tells the rule that it breaks first.
+    pub fn take_line(&mut self, limits: &Limits, words: &[Word<'a>]) -> Result<(), LineError>
+        requires small { limits.now.signals < 2 ^ 32 }
+        requires kept { IsKept limits.now (known_of self.old) }
+        ensures { Takes limits.now (known_of self.old) (texts words.now) result (known_of self.new) }
+    {
+        if self.is_in_marking() {
+            return self.take_marked(limits, words);
+        }
+        match words {
+            [] => self.take_nothing(limits),
+            [first, rest @ ..] => self.take_words(limits, first.text, rest),
+        }
+    }
+}
+
+/// Adds words to a marking.
+fn extend_marking<'a>(
+    alloc: Global,
+    most: u32,
+    signals: &Signals<'a>,
+    graph: &Graph<'a>,
+    marking: &mut Marking<'a>,
+    words: &[Word<'a>],
+) -> Result<(), LineError>
+    requires { length signals.now < 2 ^ 32 }
+    ensures { Marks (is_bad_marking most (without_dummies signals.now) graph.now.places (marking.old ++ texts words.now)) (marking.old ++ texts words.now) result marking.new }
+{
+    marking.extend(words)?;
+    if marking.is_bad(alloc, most, signals, graph)? {
+        return Err(LineError::Broken(Rule::BadMarking));
+    }
+    Ok(())
+}

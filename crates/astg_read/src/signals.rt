@@ -1,0 +1,72 @@
+//! The declared signals, found by name.
+
+ghost use Rattle.std.specs.Prelude.{◌≡◌, ◌<◌, ◌≤◌, ◌^◌, [], not, length, IfOk, OnOk, IfSome, Some};
+ghost use Rattle.std.specs.List.{list_any};
+ghost use Rattle.stg_net.specs.Net.{number_of};
+ghost use Rattle.astg_read.specs.Header.{same_name};
+ghost use Rattle.astg_read.specs.Lists.{added};
+
+use indexmap::IndexMap;
+use std::alloc::Global;
+use std::marker::Model;
+use stg_net::{Kind, NoMemory};
+
+/// The signals in order of declaration. Contracts see them as a list.
+#[derive(Drop)]
+pub struct Signals<'a> {
+    kinds: IndexMap<&'a [u8], Kind>,
+}
+
+impl<'a> Model for Signals<'a> {
+    ghost use Rattle.std.specs.Prelude.{List, map};
+    ghost use Rattle.stg_net.specs.declared.signal.Signal.{Signal};
+    ghost use Rattle.astg_read.specs.Shown.{shown_signal};
+
+    ghost Value = { List Signal };
+
+    ghost view = { λ s. map shown_signal s.kinds.entries };
+}
+
+impl<'a> Signals<'a> {
+    /// No signals.
+    pub fn new(alloc: Global) -> Self
+        ensures { result ≡ [] }
+    {
+        Signals {
+            kinds: IndexMap::new(alloc),
+        }
+    }
+
+    /// How many signals there are.
+    pub fn len(&self) -> usize
+        ensures { result ≡ length self.now }
+    {
+        self.kinds.len()
+    }
+
+    /// The number of the signal of that name.
+    pub fn find(&self, name: &[u8]) -> Option<u32>
+        requires { length self.now < 2 ^ 32 }
+        ensures value { result ≡ number_of name.now self.now }
+        ensures within { IfSome result (λ n. n < length self.now) }
+    {
+        match self.kinds.get_index_of(name) {
+            Some(at) => Some(at as u32),
+            None => None,
+        }
+    }
+
+    /// Adds a signal last, and tells whether its name is new.
+    pub fn add(&mut self, name: &'a [u8], kind: Kind) -> Result<bool, NoMemory>
+        ensures fresh { IfOk result (λ is_new. is_new ≡ not (list_any (same_name (record { name = name.now; kind = kind })) self.old)) }
+        ensures ok { OnOk result (self.new ≡ added same_name self.old (record { name = name.now; kind = kind })) }
+    {
+        match self.kinds.get_index_of(name) {
+            Some(_) => Ok(false),
+            None => {
+                self.kinds.insert(name, kind)?;
+                Ok(true)
+            }
+        }
+    }
+}

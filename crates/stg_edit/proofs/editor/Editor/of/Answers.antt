@@ -1,0 +1,53 @@
+use Rattle.std.proofs.Common.{◌≢◌, ◌<◌, ◌==◌, ℕ, List, All, AllPairs, map, length, subst, sym, ap, ◌∙◌, arith}
+use Rattle.std.specs.List.{list_any}
+use Rattle.stg_net.specs.declared.signal.Signal.{Signal}
+use Rattle.stg_net.specs.declared.trans.TransName.{TransName}
+use Rattle.stg_edit.specs.declared.editor.Mark.{Mark}
+use Rattle.stg_edit.specs.Drafting.{IsMarked}
+use Rattle.stg_edit.proofs.Marked.{marked_first}
+use Rattle.stg_net.specs.Net.{signal_at}
+use Rattle.stg_edit.specs.Editing.{name_in}
+use Rattle.stg_edit.specs.View.{base_of}
+use Rattle.stg_edit.proofs.Filling.{shows_initial}
+use Rattle.stg_edit.proofs.editor.Editor.of.Goals as goal
+
+record Signals : Type 0 where
+  signals : List Signal
+  names : List TransName
+  known : List ℕ
+
+pub returns-clause-now : goal.returns-clause-now
+returns-clause-now c =
+    let n = c.args.net.now in
+    let signals = c.in_ok-copy_signals.ensures ∙ c.signals.ensures.signals in
+    let names = c.in_ok-from_slice.ensures ∙ c.trans.ensures.trans in
+    let known = c.in_ok-from_slice-2.ensures ∙ c.as_slice.ensures in
+    shows_initial n c.args.known.now (base_of c.in_ok-copy_signals.field-0 c.in_ok-from_slice.field-0 c.in_ok-from_slice-2.field-0 (length c.tokens.result.now)) c.in_ok-arena.arena c.in_ok-arena.ensures
+    (λ i. map (name_in (signals i)) (names i)) (λ i. map (λ s. (signal_at (signals i) s).name) (known i)) (ap length c.tokens.ensures.tokens)
+
+pub invariant_of-result : goal.invariant_of-result
+invariant_of-result c =
+    let l = c.in_ok-arena.arena in
+    let n = c.args.net.now in
+    let f = c.in_ok-arena.ensures in
+    let net = c.signals.ensures.net in
+    let signals = c.in_ok-copy_signals.ensures ∙ c.signals.ensures.signals in
+    let names = c.in_ok-from_slice.ensures ∙ c.trans.ensures.trans in
+    let known = c.in_ok-from_slice-2.ensures ∙ c.as_slice.ensures in
+    let P : List Mark → Type 0 = λ ms. IsMarked l ms in
+    let R : List TransName → List Signal → Type 0 = λ names signals. All (λ (t : TransName). t.signal < length signals) names in
+    let K : List ℕ → List Signal → Type 0 = λ known signals. All (λ s. s < length signals) known in
+    let D : List Signal → Type 0 = λ signals. AllPairs (λ (s t : Signal). s.name ≢ t.name) signals in
+    record {
+      marked = subst P (sym c.new.ensures.items) (marked_first l c.sound.ensures.timed c.sound.ensures.laid);
+      room = omega arith;
+      log_long = omega (arith, f.log_room, f.place_room, f.trans);
+      long = omega arith;
+      roomy = omega (arith, f.room, f.places, f.place_room);
+      named = ap length names ∙ sym f.trans;
+      in_range = let Q : Signals → Type 0 = λ x. R x.names x.signals in subst Q (λ i. record { signals = sym signals i; names = sym names i; known = sym known i }) net.trans_signals;
+      known_there = let Q : Signals → Type 0 = λ x. K x.known x.signals in subst Q (λ i. record { signals = sym signals i; names = sym names i; known = sym known i }) c.requires.in_range;
+      names_differ = subst D (sym signals) net.signal_names;
+      shown = λ s. c.in_ok-mark_known.ensures.shown s ∙ ap (list_any (λ k. k == s)) (c.as_slice-2.ensures ∙ sym known);
+      shown_long = c.in_ok-mark_known.ensures.len ∙ ap length (c.signals-2.ensures.signals ∙ sym signals);
+    }

@@ -1,0 +1,43 @@
+-- The view of an editor, and what is true of its fields.
+use Rattle.std.specs.Prelude.{◌≡◌, ◌≢◌, ◌≤◌, ◌<◌, ◌-◌, ◌+◌, ◌==◌, ℕ, false, List, map, length, All, AllPairs, slice_index_or, vec_capacity}
+use Rattle.std.specs.List.{list_any}
+use Rattle.stg_net.specs.declared.signal.Signal.{Signal}
+use Rattle.stg_net.specs.declared.trans.TransName.{TransName}
+use Rattle.stg_net.specs.Net.{signal_at}
+use Rattle.stg_edit.specs.declared.editor.Editor.TheInside.{Inside}
+use Rattle.stg_edit.specs.Editing.{Editing, Spare, name_in}
+use Rattle.stg_edit.specs.Layout.{Layout, many}
+use Rattle.stg_edit.specs.Drafting.{Base, now_of, past_of, IsMarked}
+
+-- what stays the same through all edits
+abbrev pub base_of : List Signal → List TransName → List ℕ → ℕ → Base
+base_of signals names known first = record { names = map (name_in signals) names; known = map (λ s. (signal_at signals s).name) known; first_places = first }
+
+abbrev pub base : Inside → Base
+base e = base_of e.signals e.names e.known e.first_places
+
+-- what is spare: a new place takes a cell of its own
+abbrev pub spare_of : Layout → ℕ → Spare
+spare_of l edits = record { edits = edits; places = l.place_room - length l.places; arcs = l.cell_room - length l.arcs - (l.place_room - length l.places) }
+
+abbrev pub editing : Inside → Editing
+editing e = record {
+  now = now_of (base e) e.arena;
+  past = past_of (base e) e.arena e.marks.items;
+  spare = spare_of e.arena (e.edit_room - length e.marks.items);
+  undone = e.undone;
+  signals = e.signals;
+}
+
+pub record IsEditor (e : Inside) : Type 0 where
+  pub marked : IsMarked e.arena e.marks.items
+  pub room : e.edit_room ≤ vec_capacity e.marks
+  pub log_long : e.arena.place_room + many e.arena false ≤ e.arena.log_room
+  pub long : length e.marks.items ≤ e.edit_room
+  pub roomy : length e.arena.arcs + (e.arena.place_room - length e.arena.places) ≤ e.arena.cell_room
+  pub named : length e.names ≡ length e.arena.trans
+  pub in_range : All (λ (t : TransName). t.signal < length e.signals) e.names
+  pub known_there : All (λ s. s < length e.signals) e.known
+  pub names_differ : AllPairs (λ (s t : Signal). s.name ≢ t.name) e.signals
+  pub shown : (s : ℕ) → slice_index_or e.shown.items s false ≡ list_any (λ k. k == s) e.known
+  pub shown_long : length e.shown.items ≡ length e.signals

@@ -1,0 +1,452 @@
+//! The arena: cells between places and transitions, linked on both sides.
+//!
+//! What goes keeps its cells and links, with the moment when it went, so that it can come back.
+
+ghost use Rattle.std.specs.Prelude.{◌≡◌, ◌<◌, ◌≤◌, ◌+◌, ◌-◌, ℕ, true, false, not, length, map, IsTrue, IfOk, OnOk, OnErr, vec_capacity, ◌↔◌};
+ghost use Rattle.std.specs.List.{range_with_len};
+ghost use Rattle.stg_edit.specs.Bare.{bare, trans_head, lone_link};
+ghost use Rattle.stg_edit.specs.Layout.{died, spot_at, none, many, gone_at, IsGone, IsPushedArc, IsPushedPlace, IsPastAll, IsTimed, IsLaid, EndsInArc, end_of, arc_at, side, times_of, head_of};
+ghost use Rattle.stg_edit.specs.Later.{HasAllCells, IsBack};
+ghost use Rattle.stg_edit.specs.Popping.{EndsInPlace, IsHeadPushed, IsOneMore, CanPop, IsPopping};
+ghost use Rattle.stg_edit.specs.declared.arena.Arc.{Arc as ThisArc};
+ghost use Rattle.stg_edit.specs.declared.arena.Spot.{Spot as ThisSpot};
+ghost use Rattle.stg_edit.specs.Room.{HasRoom, IsRoomier};
+ghost use Rattle.stg_edit.specs.Times.{IsNextAt};
+ghost use Rattle.stg_edit.specs.Walked.{IsLive, weight_of};
+
+use crate::links::{Link, hide, pop_link, push_link, show};
+use std::alloc::Global;
+use std::marker::Model;
+use stg_net::NoMemory;
+
+/// The number of no place and no transition, and the moment that never comes.
+pub const NONE: u32 = u32::MAX;
+
+/// A cell: the weights between a place and a transition. The head of a ring has `NONE` as its
+/// other end.
+#[derive(Clone, Copy)]
+pub struct Arc {
+    pub place: u32,
+    pub trans: u32,
+    pub take: u32,
+    pub give: u32,
+}
+
+/// A place: the head of its ring, its tokens and the moment when it went.
+#[derive(Clone, Copy)]
+pub struct Spot {
+    pub head: u32,
+    pub tokens: u32,
+    pub died: u32,
+}
+
+/// What went, and how many cells there were then.
+#[derive(Clone, Copy)]
+pub struct Gone {
+    pub is_place: bool,
+    pub node: u32,
+    pub cells: u32,
+}
+
+/// The cells with their links on both sides, the places, for each transition the moment when it
+/// went, and what went in order. The rooms are what the lists can hold without memory.
+#[derive(Drop)]
+pub struct Arena {
+    arcs: Vec<Arc>,
+    rows: Vec<Link>,
+    cols: Vec<Link>,
+    places: Vec<Spot>,
+    trans: Vec<u32>,
+    log: Vec<Gone>,
+    log_room: u32,
+    cell_room: u32,
+    place_room: u32,
+}
+
+impl Model for Arena {
+    ghost use Rattle.stg_edit.specs.Layout.{Layout};
+
+    ghost Value = { Layout };
+
+    ghost use Rattle.stg_edit.specs.Sound.{layout, IsSound};
+
+    ghost view = { layout };
+
+    ghost invariant = { IsSound };
+}
+
+impl Arena {
+    /// Live transitions without arcs, with room for so many places and arcs.
+    pub fn new(alloc: Global, trans: u32, places: u32, arcs: u32) -> Result<Self, NoMemory>
+        requires { trans + places + arcs < none }
+        ensures { IfOk result (λ a. a ≡ bare trans places arcs) }
+    {
+        let log_room = places + trans;
+        let cell_room = trans + places + arcs;
+        let cells = cell_room as usize;
+        Ok(Arena {
+            arcs: push_heads(alloc, trans, cells)?,
+            rows: push_rings(alloc, trans, cells)?,
+            cols: push_rings(alloc, trans, cells)?,
+            places: Vec::with_capacity(alloc, places as usize)?,
+            trans: vec![in alloc; NONE; trans as usize]?,
+            log: Vec::with_capacity(alloc, log_room as usize)?,
+            log_room,
+            cell_room,
+            place_room: places,
+        })
+    }
+
+    /// The place p goes.
+    pub fn hide_place(&mut self, p: u32)
+        requires range { p < many self.old true }
+        requires live { died self.old true p ≡ none }
+        requires room { length self.old.log < self.old.log_room }
+        ensures { IsGone true p self.old self.new }
+    {
+        let cells = self.arcs.len() as u32;
+        let moment = self.log.len() as u32;
+        let spot = &mut self.places[p as usize];
+        let head = spot.head;
+        spot.died = moment;
+        hide(&self.rows, &mut self.cols, head);
+        self.log.push_reserved(Gone {
+            is_place: true,
+            node: p,
+            cells,
+        });
+    }
+
+    /// The transition t goes.
+    pub fn hide_trans(&mut self, t: u32)
+        requires range { t < many self.old false }
+        requires live { died self.old false t ≡ none }
+        requires room { length self.old.log < self.old.log_room }
+        ensures { IsGone false t self.old self.new }
+    {
+        let cells = self.arcs.len() as u32;
+        let moment = self.log.len() as u32;
+        self.trans[t as usize] = moment;
+        hide(&self.cols, &mut self.rows, t);
+        self.log.push_reserved(Gone {
+            is_place: false,
+            node: t,
+            cells,
+        });
+    }
+
+    /// The place p, which went last, comes back.
+    fn show_place(&mut self, p: u32)
+        requires some { 0 < length self.old.log }
+        requires last { gone_at self.old (length self.old.log - 1) ≡ record { is_place = true; node = p; cells = length self.old.arcs } }
+        ensures { IsGone true p self.new self.old }
+    {
+        let _gone = self.log.take_last();
+        let spot = &mut self.places[p as usize];
+        let head = spot.head;
+        spot.died = NONE;
+        show(&self.rows, &mut self.cols, head);
+    }
+
+    /// The transition t, which went last, comes back.
+    fn show_trans(&mut self, t: u32)
+        requires some { 0 < length self.old.log }
+        requires last { gone_at self.old (length self.old.log - 1) ≡ record { is_place = false; node = t; cells = length self.old.arcs } }
+        ensures { IsGone false t self.new self.old }
+    {
+        let _gone = self.log.take_last();
+        self.trans[t as usize] = NONE;
+        show(&self.cols, &mut self.rows, t);
+    }
+
+    /// What went last comes back.
+    pub fn show_last(&mut self)
+        requires some { 0 < length self.old.log }
+        requires cells { (gone_at self.old (length self.old.log - 1)).cells ≡ length self.old.arcs }
+        ensures { let g = gone_at self.old (length self.old.log - 1) in IsGone g.is_place g.node self.new self.old }
+    {
+        let gone = self.log[self.log.len() - 1];
+        if gone.is_place {
+            self.show_place(gone.node);
+        } else {
+            self.show_trans(gone.node);
+        }
+    }
+
+    /// A new place without arcs, behind all others.
+    pub fn push_place(&mut self, tokens: u32)
+        requires room { length self.old.arcs < self.old.cell_room }
+        requires space { length self.old.places < self.old.place_room }
+        ensures { IsPushedPlace (record { head = length self.old.arcs; tokens = tokens; died = none }) self.old self.new }
+    {
+        let cell = self.arcs.len() as u32;
+        let place = self.places.len() as u32;
+        self.rows.push_reserved(Link {
+            prev: cell,
+            next: cell,
+        });
+        self.cols.push_reserved(Link {
+            prev: cell,
+            next: cell,
+        });
+        self.arcs.push_reserved(Arc {
+            place,
+            trans: NONE,
+            take: 0,
+            give: 0,
+        });
+        self.places.push_reserved(Spot {
+            head: cell,
+            tokens,
+            died: NONE,
+        });
+    }
+
+    /// A new arc of the last place, behind those that the place has.
+    pub fn push_arc(&mut self, trans: u32, take: u32, give: u32)
+        requires place { 0 < length self.old.places }
+        requires live_place { died self.old true (length self.old.places - 1) ≡ none }
+        requires trans { trans < many self.old false }
+        requires live_trans { died self.old false trans ≡ none }
+        requires after { IsPastAll self.old (length self.old.places - 1) trans }
+        requires room { length self.old.arcs < self.old.cell_room }
+        ensures { IsPushedArc (record { place = length self.old.places - 1; trans = trans; take = take; give = give }) self.old self.new }
+    {
+        let place = (self.places.len() - 1) as u32;
+        let head = self.places[place as usize].head;
+        push_link(&mut self.rows, head);
+        push_link(&mut self.cols, trans);
+        self.arcs.push_reserved(Arc {
+            place,
+            trans,
+            take,
+            give,
+        });
+    }
+
+    /// The next cell in the ring of c's place, or in that of its transition.
+    pub fn next(&self, by_place: bool, c: u32) -> u32
+        requires { IsLive self.now by_place c }
+        ensures { IsNextAt (side self.now.arcs by_place) (side self.now.arcs (not by_place)) (times_of self.now) (length self.now.log) c result }
+    {
+        if by_place {
+            self.rows[c as usize].next
+        } else {
+            self.cols[c as usize].next
+        }
+    }
+
+    /// The head of the ring of a place, or of a transition.
+    pub fn head(&self, by_place: bool, node: u32) -> u32
+        requires { node < many self.now by_place }
+        ensures { result ≡ head_of self.now by_place node }
+    {
+        if by_place {
+            self.places[node as usize].head
+        } else {
+            node
+        }
+    }
+
+    /// The other end of the arc c: its transition where `by_place`, and else its place.
+    pub fn far(&self, by_place: bool, c: u32) -> u32
+        requires { c < length self.now.arcs }
+        ensures { result ≡ end_of (not by_place) (arc_at self.now.arcs c) }
+    {
+        if by_place {
+            self.arcs[c as usize].trans
+        } else {
+            self.arcs[c as usize].place
+        }
+    }
+
+    /// The weight of the cell out of its place, or into it.
+    pub fn weight(&self, takes: bool, c: u32) -> u32
+        requires { c < length self.now.arcs }
+        ensures { result ≡ weight_of takes (arc_at self.now.arcs c) }
+    {
+        if takes {
+            self.arcs[c as usize].take
+        } else {
+            self.arcs[c as usize].give
+        }
+    }
+
+    /// Makes room for so many new places, and for so many new arcs besides.
+    pub fn reserve(&mut self, places: u32, arcs: u32) -> Result<(), NoMemory>
+        ensures ok { OnOk result (HasRoom self.new places arcs) }
+        ensures more { IsRoomier self.old self.new }
+        ensures err { OnErr result (self.new ≡ self.old) }
+    {
+        let new_places = (self.place_room - self.places.len() as u32).max(places) as u64;
+        let new_arcs = self.spare_arcs().max(arcs) as u64;
+        let place_room = self.places.len() as u64 + new_places;
+        let cell_room = self.arcs.len() as u64 + new_places + new_arcs;
+        let log_room = (self.log_room as u64).max(place_room + self.trans.len() as u64);
+        let most = NONE as u64;
+        if place_room >= most || cell_room >= most || log_room >= most {
+            return Err(NoMemory);
+        }
+        let cells = (new_places + new_arcs) as usize;
+        self.arcs.reserve(cells)?;
+        self.rows.reserve(cells)?;
+        self.cols.reserve(cells)?;
+        self.places.reserve(new_places as usize)?;
+        self.log.reserve(log_room as usize - self.log.len())?;
+        self.place_room = place_room as u32;
+        self.cell_room = cell_room as u32;
+        self.log_room = log_room as u32;
+        Ok(())
+    }
+
+    /// The cells that are free, but for those of the heads of new places.
+    fn spare_arcs(&self) -> u32
+        ensures { result ≡ self.now.cell_room - length self.now.arcs - (self.now.place_room - length self.now.places) }
+    {
+        let places = self.place_room - self.places.len() as u32;
+        (self.cell_room - self.arcs.len() as u32).saturating_sub(places)
+    }
+
+    /// Whether the place, or the transition, of that number is live.
+    pub fn is_live(&self, by_place: bool, node: u32) -> bool
+        ensures { IsTrue result ↔ (node < many self.now by_place) × (died self.now by_place node ≡ none) }
+    {
+        if by_place {
+            (node as usize) < self.places.len() && self.places[node as usize].died == NONE
+        } else {
+            (node as usize) < self.trans.len() && self.trans[node as usize] == NONE
+        }
+    }
+
+    /// The tokens of the place.
+    pub fn tokens(&self, p: u32) -> u32
+        requires { p < length self.now.places }
+        ensures { result ≡ (spot_at self.now.places p).tokens }
+    {
+        self.places[p as usize].tokens
+    }
+
+    /// Hands out what is true of each arena.
+    pub fn sound(&self)
+        ensures timed { IsTimed self.now }
+        ensures laid { IsLaid self.now }
+    {
+        let _log = &self.log;
+    }
+
+    /// How many places and transitions went.
+    pub fn moment(&self) -> u32
+        ensures { result ≡ length self.now.log }
+    {
+        self.log.len() as u32
+    }
+
+    /// How many cells there are.
+    pub fn count_cells(&self) -> u32
+        ensures { result ≡ length self.now.arcs }
+    {
+        self.arcs.len() as u32
+    }
+
+    /// How many places there are, also of those that went.
+    pub fn count_places(&self) -> u32
+        ensures { result ≡ length self.now.places }
+    {
+        self.places.len() as u32
+    }
+
+    /// What went since the moment comes back.
+    pub fn show_to(&mut self, moment: u32)
+        requires range { moment ≤ length self.old.log }
+        requires cells { HasAllCells moment self.old }
+        ensures back { IsBack moment self.old self.new }
+        ensures moment { length self.new.log ≡ moment }
+    {
+        while self.moment() > moment {
+            self.sound();
+            self.show_last();
+        }
+    }
+
+    /// Takes off the last cells, so that so many are left.
+    pub fn pop_to(&mut self, cells: u32)
+        requires { (n : ℕ) × CanPop n cells self.old }
+        ensures popped { (n : ℕ) → CanPop n cells self.old → IsPopping n cells self.old self.new }
+        ensures cells { length self.new.arcs ≡ cells }
+    {
+        while self.count_cells() > cells {
+            self.sound();
+            self.pop_last(cells);
+            self.sound();
+        }
+    }
+
+    /// Takes off the last cell, and with a head its place. Only cells from that number on go.
+    fn pop_last(&mut self, cells: u32)
+        requires can { (n : ℕ) × CanPop n cells self.old }
+        requires more { cells < length self.old.arcs }
+        ensures { IsOneMore self.new self.old }
+    {
+        self.sound();
+        if self.arcs[self.arcs.len() - 1].trans == NONE {
+            self.pop_place();
+        } else {
+            self.pop_arc();
+        }
+    }
+
+    /// The last place, which has no arcs, is gone.
+    fn pop_place(&mut self)
+        requires { EndsInPlace self.old }
+        ensures { (a : ThisArc) × (s : ThisSpot) × IsHeadPushed a s self.new self.old }
+    {
+        let _row = self.rows.take_last();
+        let _col = self.cols.take_last();
+        let _arc = self.arcs.take_last();
+        let _place = self.places.take_last();
+    }
+
+    /// The last arc is gone.
+    fn pop_arc(&mut self)
+        requires { EndsInArc self.old }
+        ensures { IsPushedArc (arc_at self.old.arcs (length self.old.arcs - 1)) self.new self.old }
+    {
+        pop_link(&mut self.rows);
+        pop_link(&mut self.cols);
+        let _arc = self.arcs.take_last();
+    }
+}
+
+/// The heads of the transitions' rings, with room for so many cells.
+fn push_heads(alloc: Global, trans: u32, room: usize) -> Result<Vec<Arc>, NoMemory>
+    requires { trans ≤ room }
+    ensures items { IfOk result (λ v. v.items ≡ map trans_head (range_with_len 0 trans)) }
+    ensures room { IfOk result (λ v. vec_capacity v ≡ room) }
+{
+    let mut heads = Vec::with_capacity(alloc, room)?;
+    for trans in 0..trans {
+        heads.push_reserved(Arc {
+            place: NONE,
+            trans,
+            take: 0,
+            give: 0,
+        });
+    }
+    Ok(heads)
+}
+
+/// Cells that are alone in their rings, with room for more.
+fn push_rings(alloc: Global, count: u32, room: usize) -> Result<Vec<Link>, NoMemory>
+    requires { count ≤ room }
+    ensures items { IfOk result (λ v. v.items ≡ map lone_link (range_with_len 0 count)) }
+    ensures room { IfOk result (λ v. vec_capacity v ≡ room) }
+{
+    let mut rings = Vec::with_capacity(alloc, room)?;
+    for cell in 0..count {
+        rings.push_reserved(Link {
+            prev: cell,
+            next: cell,
+        });
+    }
+    Ok(rings)
+}

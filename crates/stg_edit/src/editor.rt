@@ -1,0 +1,362 @@
+//! The editor: a graph under work, and its earlier drafts.
+
+ghost use Rattle.std.specs.Prelude.{◌≡◌, ◌==◌, ◌<◌, ◌≤◌, ◌↔◌, ◌+◌, ◌-◌, ◌^◌, ◌++◌, ◌∷◌, [], ℕ, Some, false, length, min, All, IfOk, OnOk, OnErr, IsTrue, slice_index_or};
+ghost use Rattle.std.specs.List.{list_any};
+ghost use Rattle.stg_net.specs.declared.limits.TheConstants.Limits.{PART};
+ghost use Rattle.stg_net.specs.Net.{IsWithin};
+ghost use Rattle.stg_net.specs.Initial.{initial};
+ghost use Rattle.stg_net.specs.Contraction.{without_place, without_trans, contracted, pairs_round};
+ghost use Rattle.stg_net.specs.Graph.{IsPlace, IsTrans, IsDummy, tokens_at, full_name_at};
+ghost use Rattle.stg_edit.specs.Drafting.{present};
+ghost use Rattle.stg_edit.specs.Walks.{taken_places, given_places, taking_trans, giving_trans};
+ghost use Rattle.stg_edit.specs.Counted.{live_places, count_arcs};
+ghost use Rattle.stg_edit.specs.Counted as editing;
+ghost use Rattle.stg_edit.specs.Editing.{IsAsMuch, less, one_edit_less, name_in};
+ghost use Rattle.stg_edit.specs.Replacing.{new_places, new_arcs, IsSmallPair};
+
+use crate::arena::Arena;
+use crate::build::build;
+use crate::join::join_round;
+use crate::round::hide_round;
+use crate::walk::Walk;
+use crate::wear::Wear;
+use std::alloc::Global;
+use std::marker::Model;
+use stg_net::{Net, NoMemory, Nums, Seq, Signal, TransName};
+
+/// Where an edit began: how many nodes had gone, and how many places and cells there were.
+#[derive(Clone, Copy, Debug)]
+pub struct Mark {
+    pub moment: u32,
+    pub places: u32,
+    pub cells: u32,
+}
+
+/// A graph under work. Contracts see it as its draft, the drafts before each edit, what is spare,
+/// how many edits were undone, and the signals of the net.
+#[derive(Drop)]
+pub struct Editor {
+    arena: Arena,
+    signals: Seq<Signal>,
+    names: Seq<TransName>,
+    known: Nums,
+    /// For each signal, whether it is known.
+    shown: Vec<bool>,
+    marks: Vec<Mark>,
+    edit_room: u32,
+    first_places: u32,
+    undone: u64,
+}
+
+impl Model for Editor {
+    ghost use Rattle.stg_edit.specs.Editing.{Editing};
+
+    ghost Value = { Editing };
+
+    ghost use Rattle.stg_edit.specs.View.{editing, IsEditor};
+
+    ghost view = { editing };
+
+    ghost invariant = { IsEditor };
+}
+
+impl Editor {
+    /// Makes the editor of a net in which these signals are known. All is live.
+    pub fn of(alloc: Global, net: &Net, known: &Nums) -> Result<Editor, NoMemory>
+        requires within { IsWithin PART net.now }
+        requires in_range { All (λ s. s < length net.now.signals) known.now }
+        ensures now { IfOk result (λ e. e.now ≡ initial net.now known.now) }
+        ensures past { IfOk result (λ e. e.past ≡ []) }
+        ensures undone { IfOk result (λ e. e.undone ≡ 0) }
+        ensures signals { IfOk result (λ e. e.signals ≡ net.now.signals) }
+    {
+        let arena = build(alloc, net)?;
+        arena.sound();
+        Ok(Editor {
+            arena,
+            signals: copy_signals(alloc, net.signals())?,
+            names: Seq::from_slice(alloc, net.trans())?,
+            known: Seq::from_slice(alloc, known.as_slice())?,
+            shown: mark_known(alloc, net.signals().len(), known.as_slice())?,
+            marks: Vec::new(alloc),
+            edit_room: 0,
+            first_places: net.tokens().len() as u32,
+            undone: 0,
+        })
+    }
+
+    /// Makes at least so much spare.
+    pub fn reserve(&mut self, edits: u32, places: u32, arcs: u32) -> Result<(), NoMemory>
+        ensures ok { OnOk result (IsAsMuch (record { edits = edits; places = places; arcs = arcs }) self.new.spare) }
+        ensures spare { IsAsMuch self.old.spare self.new.spare }
+        ensures kept { self.new ≡ record self.old { spare = self.new.spare } }
+        ensures err { OnErr result (self.new ≡ self.old) }
+    {
+        let edit_room = self.marks.len() as u64 + edits as u64;
+        if edit_room > u32::MAX as u64 {
+            return Err(NoMemory);
+        }
+        self.marks.reserve(edits as usize)?;
+        self.arena.reserve(places, arcs)?;
+        self.edit_room = self.edit_room.max(edit_room as u32);
+        Ok(())
+    }
+
+    /// Whether the place of that number is live.
+    pub fn is_place(&self, p: u32) -> bool
+        ensures { IsTrue result ↔ IsPlace self.now.now p }
+    {
+        self.arena.sound();
+        self.arena.is_live(true, p)
+    }
+
+    /// The tokens of a live place.
+    pub fn tokens(&self, p: u32) -> u32
+        requires { IsPlace self.now.now p }
+        ensures { result ≡ tokens_at self.now.now p }
+    {
+        self.arena.sound();
+        self.arena.tokens(p)
+    }
+
+    /// Whether the transition of that number is live.
+    pub fn is_trans(&self, t: u32) -> bool
+        ensures { IsTrue result ↔ IsTrans self.now.now t }
+    {
+        self.arena.sound();
+        self.arena.is_live(false, t)
+    }
+
+    /// Whether the signal of a live transition isn't known.
+    pub fn is_dummy(&self, t: u32) -> bool
+        requires { IsTrans self.now.now t }
+        ensures { IsTrue result ↔ IsDummy self.now.now t }
+    {
+        let name = self.name(t);
+        !self.shown[name.signal as usize]
+    }
+
+    /// The name of a live transition, with the number of its signal in the net.
+    pub fn name(&self, t: u32) -> TransName
+        requires { IsTrans self.now.now t }
+        ensures name { full_name_at self.now.now t ≡ Some (name_in self.now.signals result) }
+        ensures signal { result.signal < length self.now.signals }
+    {
+        self.arena.sound();
+        self.names.as_slice()[t as usize]
+    }
+
+    /// The places from which a live transition takes, with the weights.
+    pub fn takes(&self, t: u32) -> Walk<'_>
+        requires { IsTrans self.now.now t }
+        ensures { result ≡ taken_places self.now.now t }
+    {
+        self.arena.sound();
+        Walk::of(&self.arena, false, true, t)
+    }
+
+    /// The places to which a live transition gives, with the weights.
+    pub fn gives(&self, t: u32) -> Walk<'_>
+        requires { IsTrans self.now.now t }
+        ensures { result ≡ given_places self.now.now t }
+    {
+        self.arena.sound();
+        Walk::of(&self.arena, false, false, t)
+    }
+
+    /// The transitions that take from a live place, with the weights.
+    pub fn takers(&self, p: u32) -> Walk<'_>
+        requires { IsPlace self.now.now p }
+        ensures { result ≡ taking_trans self.now.now p }
+    {
+        self.arena.sound();
+        Walk::of(&self.arena, true, true, p)
+    }
+
+    /// The transitions that give to a live place, with the weights.
+    pub fn givers(&self, p: u32) -> Walk<'_>
+        requires { IsPlace self.now.now p }
+        ensures { result ≡ giving_trans self.now.now p }
+    {
+        self.arena.sound();
+        Walk::of(&self.arena, true, false, p)
+    }
+
+    /// The number of live places.
+    pub fn places(&self) -> u32
+        ensures { result ≡ length (live_places self.now.now) }
+    {
+        let mut count = 0;
+        for p in 0..self.next_place() {
+            if self.is_place(p) {
+                count += 1;
+            }
+        }
+        count
+    }
+
+    /// The number of arcs, or the last number of 32 bits where there are more.
+    pub fn arcs(&self) -> u32
+        ensures { result ≡ min (count_arcs self.now.now) (2 ^ 32 - 1) }
+    {
+        let mut count = 0;
+        for p in 0..self.next_place() {
+            if self.is_place(p) {
+                count = self.arcs_at(p).saturating_add(count);
+            }
+        }
+        count.min(u32::MAX as u64) as u32
+    }
+
+    /// The number of arcs at a live place.
+    fn arcs_at(&self, p: u32) -> u64
+        requires { IsPlace self.now.now p }
+        ensures { result ≡ editing.arcs_at self.now.now p }
+    {
+        self.arena.sound();
+        self.takers(p).count() as u64 + self.givers(p).count() as u64
+    }
+
+    /// The number that the next new place gets.
+    pub fn next_place(&self) -> u32
+        ensures { result ≡ length self.now.now.places }
+    {
+        self.arena.count_places()
+    }
+
+    /// The number of the net's places.
+    pub fn first_places(&self) -> u32
+        ensures { result ≡ self.now.now.first_places }
+    {
+        self.first_places
+    }
+
+    /// Deletes a place with its arcs.
+    pub fn drop_place(&mut self, p: u32)
+        requires live { IsPlace self.old.now p }
+        requires room { 0 < self.old.spare.edits }
+        ensures now { self.new.now ≡ without_place self.old.now p }
+        ensures past { self.new.past ≡ self.old.past ++ self.old.now ∷ [] }
+        ensures spare { self.new.spare ≡ one_edit_less self.old.spare }
+        ensures undone { self.new.undone ≡ self.old.undone }
+        ensures signals { self.new.signals ≡ self.old.signals }
+    {
+        self.arena.sound();
+        let mark = make_mark(&self.arena);
+        self.arena.hide_place(p);
+        self.arena.sound();
+        self.marks.push_reserved(mark);
+    }
+
+    /// Deletes a dummy with its arcs.
+    pub fn drop_dummy(&mut self, t: u32)
+        requires live { IsDummy self.old.now t }
+        requires room { 0 < self.old.spare.edits }
+        ensures now { self.new.now ≡ without_trans self.old.now t }
+        ensures past { self.new.past ≡ self.old.past ++ self.old.now ∷ [] }
+        ensures spare { self.new.spare ≡ one_edit_less self.old.spare }
+        ensures undone { self.new.undone ≡ self.old.undone }
+        ensures signals { self.new.signals ≡ self.old.signals }
+    {
+        self.arena.sound();
+        let mark = make_mark(&self.arena);
+        self.arena.hide_trans(t);
+        self.arena.sound();
+        self.marks.push_reserved(mark);
+    }
+
+    /// Contracts a dummy: it goes with the places round it, and each pair of a place before it and a
+    /// place after it has a new place.
+    pub fn replace(&mut self, t: u32)
+        requires live { IsDummy self.old.now t }
+        requires room { 0 < self.old.spare.edits }
+        requires places { new_places self.old.now t ≤ self.old.spare.places }
+        requires arcs { new_arcs self.old.now t ≤ self.old.spare.arcs }
+        requires sums { All (IsSmallPair self.old.now) (pairs_round self.old.now t) }
+        ensures now { self.new.now ≡ contracted self.old.now t }
+        ensures past { self.new.past ≡ self.old.past ++ self.old.now ∷ [] }
+        ensures spare { IsAsMuch (less self.old.spare 1 (new_places self.old.now t) (new_arcs self.old.now t)) self.new.spare }
+        ensures undone { self.new.undone ≡ self.old.undone }
+        ensures signals { self.new.signals ≡ self.old.signals }
+    {
+        self.arena.sound();
+        let mark = make_mark(&self.arena);
+        join_round(&mut self.arena, t);
+        self.arena.sound();
+        hide_round(&mut self.arena, t);
+        self.arena.sound();
+        self.arena.hide_trans(t);
+        self.arena.sound();
+        self.marks.push_reserved(mark);
+    }
+
+    /// Takes the last edit back: the draft before it is the draft again.
+    pub fn undo(&mut self)
+        requires { 0 < length self.old.past }
+        ensures back { self.old.past ≡ self.new.past ++ self.new.now ∷ [] }
+        ensures edits { self.new.spare.edits ≡ self.old.spare.edits + 1 }
+        ensures spare { IsAsMuch self.old.spare self.new.spare }
+        ensures undone { self.new.undone ≡ min (self.old.undone + 1) (2 ^ 64 - 1) }
+        ensures signals { self.new.signals ≡ self.old.signals }
+    {
+        self.arena.sound();
+        let mark = self.marks.take_last();
+        self.arena.show_to(mark.moment);
+        self.arena.sound();
+        self.arena.pop_to(mark.cells);
+        self.arena.sound();
+        self.undone = self.undone.saturating_add(1);
+    }
+
+    /// Ends the editor.
+    pub fn close(self) -> Wear
+        ensures edits { result.edits ≡ length self.past }
+        ensures undone { result.undone ≡ self.undone }
+    {
+        Wear::of(self.marks.len() as u64, self.undone)
+    }
+}
+
+/// The mark of an edit that begins now.
+fn make_mark(arena: &Arena) -> Mark
+    ensures { result ≡ present arena.now }
+{
+    Mark {
+        moment: arena.moment(),
+        places: arena.count_places(),
+        cells: arena.count_cells(),
+    }
+}
+
+fn copy_signal(alloc: Global, signal: &Signal) -> Result<Signal, NoMemory>
+    ensures { IfOk result (λ s. s ≡ signal.now) }
+{
+    let name = Seq::from_slice(alloc, signal.name.as_slice())?;
+    Ok(Signal {
+        name,
+        kind: signal.kind,
+    })
+}
+
+fn copy_signals(alloc: Global, signals: &[Signal]) -> Result<Seq<Signal>, NoMemory>
+    ensures { IfOk result (λ list. list ≡ signals.now) }
+{
+    let mut list = Seq::new(alloc);
+    for signal in signals {
+        list.push(copy_signal(alloc, signal)?)?;
+    }
+    Ok(list)
+}
+
+/// For each signal, whether it is one of the known ones.
+fn mark_known(alloc: Global, signals: usize, known: &[u32]) -> Result<Vec<bool>, NoMemory>
+    requires { All (λ s. s < signals) known.now }
+    ensures shown { IfOk result (λ v. (s : ℕ) → slice_index_or v.items s false ≡ list_any (λ k. k == s) known.now) }
+    ensures len { IfOk result (λ v. length v.items ≡ signals) }
+{
+    let mut shown = vec![in alloc; false; signals]?;
+    for signal in known {
+        shown[*signal as usize] = true;
+    }
+    Ok(shown)
+}

@@ -1,0 +1,17 @@
+//! Graphs under work: edits that take no memory, and their exact undo.
+#![tactic(auto)]
+
+mod arena;
+mod build;
+mod editor;
+mod join;
+mod links;
+mod round;
+#[cfg(test)]
+mod tests;
+mod walk;
+mod wear;
+
+pub use editor::Editor;
+pub use walk::Walk;
+pub use wear::Wear;
