@@ -21,7 +21,7 @@ pub positive : (n : ℕ) → (n == 0) ≡ false → 0 < n
 positive zero h = absurd (true≢false h)
 positive (suc n) h = omega arith
 
-words-take : (n : ℕ) (words : List (Bor (List ℕ))) → shown_words (take n words) ≡ take n (shown_words words)
+pub words-take : (n : ℕ) (words : List (Bor (List ℕ))) → shown_words (take n words) ≡ take n (shown_words words)
 words-take zero [] = refl
 words-take (suc n) [] = refl
 words-take zero (w ∷ words) = refl

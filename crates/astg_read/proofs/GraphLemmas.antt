@@ -18,7 +18,7 @@ use Rattle.astg_read.specs.Graphs.{Pair, PlaceAt, same_pair, same_place, trans_a
 use Rattle.astg_read.specs.Known.{GraphLists}
 use Rattle.astg_read.specs.Steps.{with_node, with_between, with_targets, trans_in, places_in}
 use Rattle.astg_read.specs.Shown.{shown_place, shown_weighed}
-use Rattle.astg_read.proofs.Keyed.{any-seen, position-entry, keys-added}
+use Rattle.astg_read.proofs.Keyed.{any-seen, position-seen, position-entry, keys-added}
 use Rattle.astg_read.proofs.NumberLemmas.{any-found, any-missing}
 use Rattle.astg_read.proofs.SameLemmas.{trans-same, places-same, ends-same}
 use Rattle.astg_read.proofs.StepLemmas.{firsts-append}
@@ -34,6 +34,10 @@ places-added ps p = keys-added (places.eq-value).it same_place shown_place p (pl
 -- a place is among the keys where it is among those seen
 pub place-among : (ps : List Place) (p : Place) → list_any ((places.eq-value).it p) ps ≡ list_any (same_place (shown_place p)) (map shown_place ps)
 place-among ps p = any-seen ((places.eq-value).it p) (same_place (shown_place p)) shown_place (places-same p) ps
+
+-- a place's index among the keys is its number
+pub position-places : (ps : List Place) (p : Place) → position ((places.eq-value).it p) ps ≡ position (same_place (shown_place p)) (map shown_place ps)
+position-places ps p = position-seen ((places.eq-value).it p) (same_place (shown_place p)) shown_place (places-same p) ps
 
 -- the targets of one more pair
 pub with_targets-cons : (g : GraphLists) (p : Pair) (ps : List Pair) → with_targets (with_between (with_node g p.target) p.source p.target) ps ≡ with_targets g (p ∷ ps)

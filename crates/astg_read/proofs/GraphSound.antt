@@ -11,9 +11,9 @@ use Rattle.astg_read.specs.Header.{Declared}
 use Rattle.astg_read.specs.Lists.{firsts, added}
 use Rattle.astg_read.specs.Nodes.{Node, Trans, Place, same_trans, trans_of, trans_or_place, node_of}
 use Rattle.astg_read.specs.Targets.{Target, targets_after, is_weight, weight_of, is_good_group}
-use Rattle.astg_read.specs.Graphs.{Pair, PlaceAt, Named, Between, same_place, trans_at, place_at, place_between, pair_of, pairs_on, trans_on}
+use Rattle.astg_read.specs.Graphs.{Pair, PlaceAt, Named, Between, same_place, trans_at, place_at, place_between, pair_of, pairs_on, trans_on, places_on}
 use Rattle.astg_read.specs.Steps.{trans_in, places_in}
-use Rattle.astg_read.specs.Sound.{is_trans_in, is_weighed, IsNodeIn, IsBetweenIn, IsPairIn, ArePairsIn}
+use Rattle.astg_read.specs.Sound.{is_trans_in, is_place_in, is_weighed, IsNodeIn, IsBetweenIn, IsPairIn, ArePairsIn}
 use Rattle.astg_read.proofs.Agains.{any-added, all-append}
 use Rattle.astg_read.proofs.IndexLemmas.{IsGoodTrans, trans_of-good}
 use Rattle.astg_read.proofs.NumberLemmas.{any-firsts, same_trans-refl}
@@ -165,3 +165,39 @@ pub line-good : (d : Declared) (w : Word) (ws : Row) → list_all (is_trans_in (
 line-good d w ws =
     all-append same_trans (is_trans_in (length d.signals)) (trans_at (node_of d w) ++ []) (trans_in (pairs_on d (w ∷ ws)))
       (ap (list_all (is_trans_in (length d.signals))) (append-nil (trans_at (node_of d w))) ∙ node-good d w) (targets-good d w (targets_after zero ws))
+
+-- the transitions of places stay there
+place-wider : (ts xs : List TransName) (p : PlaceAt) → is_place_in ts p ≡ true → is_place_in (firsts same_trans ts xs) p ≡ true
+place-wider ts xs (Named p) h = refl
+place-wider ts xs (Between t u) h =
+    let q = and_parts (list_any (same_trans t) ts) (list_any (same_trans u) ts) h in
+    and_from (list_any (same_trans t) (firsts same_trans ts xs)) (list_any (same_trans u) (firsts same_trans ts xs)) (any-firsts same_trans (same_trans t) ts xs q.0) (any-firsts same_trans (same_trans u) ts xs q.1)
+
+pub places-wider : (ts xs : List TransName) (ps : List PlaceAt) → list_all (is_place_in ts) ps ≡ true → list_all (is_place_in (firsts same_trans ts xs)) ps ≡ true
+places-wider ts xs [] h = refl
+places-wider ts xs (p ∷ ps) h =
+    let q = and_parts (is_place_in ts p) (list_all (is_place_in ts) ps) h in
+    and_from (is_place_in (firsts same_trans ts xs) p) (list_all (is_place_in (firsts same_trans ts xs)) ps) (place-wider ts xs p q.0) (places-wider ts xs ps q.1)
+
+-- the places of a line have their transitions
+node-places : (ts : List TransName) (n : Node) → list_all (is_place_in ts) (place_at n) ≡ true
+node-places ts (Trans t) = refl
+node-places ts (Place p) = refl
+
+between-places : (ts : List TransName) (ps : List PlaceAt) (m n : Node) → IsNodeIn ts ps m → IsNodeIn ts ps n → list_all (is_place_in ts) (place_between m n) ≡ true
+between-places ts ps (Trans t) (Trans u) h k = and_from (list_any (same_trans t) ts && list_any (same_trans u) ts) true (and_from (list_any (same_trans t) ts) (list_any (same_trans u) ts) h k) refl
+between-places ts ps (Trans t) (Place q) h k = refl
+between-places ts ps (Place p) (Trans u) h k = refl
+between-places ts ps (Place p) (Place q) h k = refl
+
+pairs-places : (ts : List TransName) (ps : List PlaceAt) (pairs : List Pair) → ArePairsIn ts ps pairs → list_all (is_place_in ts) (places_in pairs) ≡ true
+pairs-places ts ps [] h = refl
+pairs-places ts ps (p ∷ pairs) h =
+    all-append same_place (is_place_in ts) (place_at p.target ++ place_between p.source p.target) (places_in pairs)
+      (all-append same_place (is_place_in ts) (place_at p.target) (place_between p.source p.target) (node-places ts p.target) (between-places ts ps p.source p.target h.0.source_there h.0.target_there))
+      (pairs-places ts ps pairs h.1)
+
+pub line-places : (d : Declared) (w : Word) (ws : Row) (ts : List TransName) (ps : List PlaceAt) → ArePairsIn ts ps (pairs_on d (w ∷ ws)) → list_all (is_place_in ts) (places_on d (w ∷ ws)) ≡ true
+line-places d w ws ts ps h =
+    all-append same_place (is_place_in ts) (place_at (node_of d w) ++ []) (places_in (pairs_on d (w ∷ ws)))
+      (ap (list_all (is_place_in ts)) (append-nil (place_at (node_of d w))) ∙ node-places ts (node_of d w)) (pairs-places ts ps (pairs_on d (w ∷ ws)) h)

@@ -1,6 +1,6 @@
 -- What each line that is taken keeps.
 use Rattle.std.proofs.Common.{◌≡◌, ℕ, ◌≤◌, ◌<◌, List, [], ◌∷◌, ◌++◌, Bool, true, false, cond, not, drop, unwrap_or, ◌||◌, ◌&&◌, length, nat_lt, refl, sym, ap, subst, ◌∙◌, inl, inr, Some, None, Option, is_some, MatchOption, append-nil, arith}
-use Rattle.std.proofs.lemmas.Bool.{cases_Bool, cases_lt, lt-ltb, or_parts, true≢false, false≢true}
+use Rattle.std.proofs.lemmas.Bool.{cases_Bool, cases_lt, lt-ltb, le-ltb, or_parts, true≢false, false≢true}
 use Rattle.std.proofs.lemmas.Slice.Eq.{bytes_eq-Decides}
 use Rattle.std.specs.Prelude.{codes, ⊤}
 use Rattle.std.specs.List.{list_any}
@@ -16,13 +16,13 @@ use Rattle.astg_read.specs.Rules.{first_broken, line_rules, has_too_many, has_du
 use Rattle.astg_read.specs.Steps.{after_row, after_graph, in_graph, with_header, with_names, with_graph_row}
 use Rattle.astg_read.specs.GraphRules.{or_later}
 use Rattle.astg_read.specs.Sound.{IsSound}
-use Rattle.astg_read.specs.Taking.{line_fault, verdict, taken, IsGood, IsKept}
+use Rattle.astg_read.specs.Taking.{line_fault, verdict, taken, nothing, IsGood, IsKept}
 use Rattle.astg_read.proofs.Verdicts.{past, stop, verdict-inside}
 use Rattle.astg_read.proofs.Takings.{verdict-said, verdict-dummies, too-taken, ends-outside, ends-inside, broken-head, end-row, dummy-row, or_later-none, after-begun, after-before}
 use Rattle.astg_read.proofs.Sounds.{sound-after, sound-marking}
 
 -- a marking with words has the graph before it, and is good
-good-some : (most : ℕ) (k : Known) (words : Row) → k.marking ≡ Some words → IsGood most k → (k.has_graph ≡ true) × (is_bad_marking most k.declared k.places words ≡ false)
+pub good-some : (most : ℕ) (k : Known) (words : Row) → k.marking ≡ Some words → IsGood most k → (k.has_graph ≡ true) × (is_bad_marking most k.declared k.places words ≡ false)
 good-some most k words e g = subst (λ m. MatchOption m ⊤ (λ ws. (k.has_graph ≡ true) × (is_bad_marking most k.declared k.places ws ≡ false))) e g
 
 taken-end : (k : Known) (row : Row) → ends_text k row ≡ true → taken k row ≡ k
@@ -79,7 +79,7 @@ kept-inside limits k words row e inside kept v =
     let g = good-some limits.weight k words e kept.good in
     let bad = test-false (breaks_marking limits.weight k row) BadMarking (sym (verdict-inside limits k row inside) ∙ v) in
     subst P (sym (taken-else k row (ends-inside k row inside) ∙ after-begun k (Some words) row g.0 e))
-      (record { few = kept.few; good = (g.0, sym (ap (is_bad_marking limits.weight k.declared k.places) (marking-with k (Some words) row e)) ∙ bad); sound = sound-marking limits.weight k (Some (words ++ row)) kept.sound })
+      (record { few = kept.few; counts = kept.counts; good = (g.0, sym (ap (is_bad_marking limits.weight k.declared k.places) (marking-with k (Some words) row e)) ∙ bad); sound = sound-marking limits.weight k (Some (words ++ row)) kept.sound })
 
 -- the counts after a line of another kind
 few-after : (limits : Limits) (k : Known) (row : Row) → has_too_many limits (taken k row) ≡ false → length (taken k row).declared.signals ≤ limits.signals
@@ -140,12 +140,13 @@ kept-outside limits k row outside kept v =
           let empty : after_first row ≡ [] = no_words (after_first row) (test-false (nat_lt 0 (length (after_first row))) HasDummy parts.1) in
           let whole : row ≡ codes ".dummy" ∷ [] = row_is ∙ ap (λ ws. codes ".dummy" ∷ ws) empty in
           let good = good-after limits.weight k (codes ".dummy" ∷ after_first row) k.marking refl kept.good parts.0 refl k.has_graph refl in
-          subst P (sym (taken-else k row h)) (record { few = few-dummy row whole; good = subst (λ r. IsGood limits.weight (after_row k r)) (sym row_is) good; sound = subst (λ r. IsSound limits.weight (after_row k r)) (sym row_is) (sound-after limits.weight k (codes ".dummy" ∷ after_first row) parts.0 kept.sound) })
+          subst P (sym (taken-else k row h)) (record { few = few-dummy row whole; counts = counts-dummy row whole; good = subst (λ r. IsGood limits.weight (after_row k r)) (sym row_is) good; sound = subst (λ r. IsSound limits.weight (after_row k r)) (sym row_is) (sound-after limits.weight k (codes ".dummy" ∷ after_first row) parts.0 kept.sound) })
       | inr d ↦
           let parts = or_later-none (line_fault limits.weight k row) (cond (has_too_many limits (after_row k row)) (Some TooMany) None) (sym (verdict-said limits k row outside d) ∙ v) in
           let few : has_too_many limits (taken k row) ≡ false = sym (too-taken limits k row) ∙ test-false (has_too_many limits (after_row k row)) TooMany parts.1 in
           (record {
             few = few-after limits k row few;
+            counts = few;
             good = subst (λ q. IsGood limits.weight q) (sym (taken-else k row h)) (good-after limits.weight k row k.marking refl kept.good parts.0 (sym (ends-outside k row outside) ∙ h) k.has_graph refl);
             sound = subst (λ q. IsSound limits.weight q) (sym (taken-else k row h)) (sound-after limits.weight k row parts.0 kept.sound) }) ] ]
   where
@@ -159,6 +160,16 @@ kept-outside limits k row outside kept v =
         by_marking : (m : Option Row) → length (after_graph k m (codes ".dummy" ∷ [])).declared.signals ≤ limits.signals
         by_marking None = kept.few
         by_marking (Some ws) = kept.few
+    counts-empty : (b : Bool) → k.has_graph ≡ b → has_too_many limits (after_row k (codes ".dummy" ∷ [])) ≡ false
+    counts-empty false e = ap (has_too_many limits) (after-before k (codes ".dummy" ∷ []) e)
+        ∙ ap (λ (ss : List Signal). has_too_many limits (record k { declared = record { signals = ss; dummies = k.declared.dummies } })) (append-nil k.declared.signals) ∙ kept.counts
+    counts-empty true e = ap (has_too_many limits) (after-begun k k.marking (codes ".dummy" ∷ []) e refl) ∙ by_marking k.marking
+      where
+        by_marking : (m : Option Row) → has_too_many limits (after_graph k m (codes ".dummy" ∷ [])) ≡ false
+        by_marking None = kept.counts
+        by_marking (Some ws) = kept.counts
+    counts-dummy : (r : Row) → r ≡ codes ".dummy" ∷ [] → has_too_many limits (after_row k r) ≡ false
+    counts-dummy r e = ap (λ x. has_too_many limits (after_row k x)) e ∙ counts-empty k.has_graph refl
     few-dummy : (r : Row) → r ≡ codes ".dummy" ∷ [] → length (after_row k r).declared.signals ≤ limits.signals
     few-dummy r e = subst (λ x. length (after_row k x).declared.signals ≤ limits.signals) (sym e) (few-empty k.has_graph refl)
 
@@ -182,3 +193,14 @@ verdict-nothing limits k inside kept = by_marking k.marking refl
         verdict-inside limits k [] inside
         ∙ past (breaks_marking limits.weight k []) (Some BadMarking) None
           (ap (is_bad_marking limits.weight k.declared k.places) (marking-with k (Some words) [] e ∙ append-nil words) ∙ (good-some limits.weight k words e kept.good).1)
+
+-- before the first line
+pub kept-nothing : (limits : Limits) → IsKept limits nothing
+kept-nothing limits = record {
+  few = omega arith;
+  counts = (λ j. none limits.signals j || none limits.trans j || none limits.places j || none limits.arcs j);
+  good = tt;
+  sound = record { named = refl; names_differ = refl; trans_differ = refl; trans_there = refl; places_there = refl; weighed = refl; pairs_there = tt; pairs_differ = refl } }
+  where
+    none : (n : ℕ) → nat_lt n 0 ≡ false
+    none n = le-ltb n 0 (omega arith)

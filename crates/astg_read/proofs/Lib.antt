@@ -19,4 +19,9 @@ pub mod Agains
 pub mod IndexLemmas
 pub mod GraphSound
 pub mod Sounds
+pub mod ArcLemmas
+pub mod ReadyLemmas
+pub mod MarkLemmas
+pub mod BuiltLemmas
+pub mod FinishLemmas
 pub mod OneSpec

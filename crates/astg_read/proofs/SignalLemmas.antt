@@ -3,13 +3,15 @@ use Rattle.std.proofs.Common.{◌≡◌, ℕ, ◌+◌, List, [], ◌∷◌, ◌+
 use Rattle.std.specs.Borrow.{Bor}
 use Rattle.std.specs.List.{list_any}
 use Rattle.std.specs.Map.{keys_of}
+use Rattle.std.proofs.lemmas.Bool.{or_parts}
 use Rattle.std.specs.Str.{bytes_eq}
 use Rattle.stg_net.specs.declared.signal.Signal.{Signal}
 use Rattle.stg_net.specs.declared.signal.Kind.{Kind}
 use Rattle.stg_net.specs.Net.{number_of}
 use Rattle.astg_read.specs.Header.{same_name}
+use Rattle.astg_read.specs.Lists.{stands_again}
 use Rattle.astg_read.specs.Shown.{shown_signal}
-use Rattle.astg_read.proofs.NumberLemmas.{any-found, any-missing}
+use Rattle.astg_read.proofs.NumberLemmas.{any-found, any-missing, position-none}
 use Rattle.astg_read.proofs.Keyed.{position-entry}
 
 -- the index of a name among the keys is the number of the signal
@@ -27,3 +29,11 @@ pub missing-signal : (name : List ℕ) (kind : Kind) (es : List (Bor (List ℕ) 
     → None ≡ position (λ (k : Bor (List ℕ)). bytes_eq name k.now) (keys_of es) → list_any (same_name (record { name = name; kind = kind })) signals ≡ false
 missing-signal name kind es signals view at =
     any-missing (λ (s : Signal). bytes_eq name s.name) signals (sym (at ∙ position-signals name es ∙ ap (number_of name) view))
+
+-- a name that doesn't stand again is no signal's yet
+pub signal-new : (signals : List Signal) (name : Bor (List ℕ)) (kind : Kind) (rest all : List (Bor (List ℕ) × Kind)) → all ≡ (name, kind) ∷ rest
+    → stands_again same_name signals (map shown_signal all) ≡ false → number_of name.now signals ≡ None
+signal-new signals name kind rest all e h =
+    position-none (λ (s : Signal). bytes_eq name.now s.name) signals
+      (or_parts (list_any (same_name (shown_signal (name, kind))) signals) (stands_again same_name (signals ++ shown_signal (name, kind) ∷ []) (map shown_signal rest))
+        (sym (ap (λ es. stands_again same_name signals (map shown_signal es)) e) ∙ h)).0

@@ -20,10 +20,10 @@ use Rattle.astg_read.specs.Markings.{is_unfinished}
 use Rattle.astg_read.specs.Known.{Known}
 use Rattle.astg_read.specs.Rules.{first_broken, line_rules, breaks_directive, breaks_order, breaks_names, declares_twice, has_unknown, has_no_edge, has_bad_arc, repeats_arc, has_bad_weight}
 use Rattle.astg_read.specs.Steps.{after_row, after_graph, in_graph, with_header, with_names, with_graph_row, trans_in, places_in}
-use Rattle.astg_read.specs.Sound.{is_named, is_trans_in, is_weighed, IsSound, ArePairsIn}
+use Rattle.astg_read.specs.Sound.{is_named, is_trans_in, is_place_in, is_weighed, IsSound, ArePairsIn}
 use Rattle.astg_read.specs.Taking.{line_fault}
 use Rattle.astg_read.proofs.Agains.{again-more, again-firsts, all-append, all-firsts}
-use Rattle.astg_read.proofs.GraphSound.{line-there, line-weighed, line-good, pairs-more, pairs-append}
+use Rattle.astg_read.proofs.GraphSound.{line-there, line-weighed, line-good, pairs-more, pairs-append, places-wider, line-places}
 use Rattle.astg_read.proofs.StepLemmas.{firsts-append}
 use Rattle.astg_read.proofs.Takings.{broken-head, after-begun, after-before}
 
@@ -91,6 +91,7 @@ sound-header most k row none s =
       names_differ = again-more same_name k.declared.signals (signals_on row) s.names_differ (twice most k row none).0;
       trans_differ = s.trans_differ;
       trans_there = wider (length k.declared.signals) (length (k.declared.signals ++ signals_on row)) k.trans (omega (arith, length-append k.declared.signals (signals_on row))) s.trans_there;
+      places_there = s.places_there;
       weighed = s.weighed;
       pairs_there = s.pairs_there;
       pairs_differ = s.pairs_differ }
@@ -120,17 +121,19 @@ sound-graph most k w ws g none s =
       names_differ = s.names_differ;
       trans_differ = again-firsts same_trans k.trans (trans_on d (w ∷ ws)) s.trans_differ;
       trans_there = all-firsts same_trans (is_trans_in (length d.signals)) k.trans (trans_on d (w ∷ ws)) s.trans_there (line-good d w ws);
+      places_there = all-firsts same_place (is_place_in (firsts same_trans k.trans (trans_on d (w ∷ ws)))) k.places (places_on d (w ∷ ws)) (places-wider k.trans (trans_on d (w ∷ ws)) k.places s.places_there)
+        (line-places d w ws (firsts same_trans k.trans (trans_on d (w ∷ ws))) (firsts same_place k.places (places_on d (w ∷ ws))) new);
       weighed = all-append same_pair (is_weighed most) k.pairs ps s.weighed (line-weighed most d w (targets_after zero ws) (not-true (list_all (is_good_group most) (targets_after zero ws)) goods));
       pairs_there = pairs-append (firsts same_trans k.trans (trans_on d (w ∷ ws))) (firsts same_place k.places (places_on d (w ∷ ws))) k.pairs ps (pairs-more k.trans (trans_on d (w ∷ ws)) k.places (places_on d (w ∷ ws)) k.pairs s.pairs_there) new;
       pairs_differ = again-more same_pair k.pairs ps s.pairs_differ (and_first (is_graph_row (w ∷ ws)) (stands_again same_pair k.pairs ps) g (repeated most k (w ∷ ws) none).0) }
 
 -- nothing of it speaks of the marking
 pub sound-marking : (most : ℕ) (k : Known) (m : Option Row) → IsSound most k → IsSound most (record k { marking = m })
-sound-marking most k m s = record { named = s.named; names_differ = s.names_differ; trans_differ = s.trans_differ; trans_there = s.trans_there; weighed = s.weighed; pairs_there = s.pairs_there; pairs_differ = s.pairs_differ }
+sound-marking most k m s = record { named = s.named; names_differ = s.names_differ; trans_differ = s.trans_differ; trans_there = s.trans_there; places_there = s.places_there; weighed = s.weighed; pairs_there = s.pairs_there; pairs_differ = s.pairs_differ }
 
 -- nor of whether .graph stood
 sound-begun : (most : ℕ) (k : Known) (b : Bool) → IsSound most k → IsSound most (record k { has_graph = b })
-sound-begun most k b s = record { named = s.named; names_differ = s.names_differ; trans_differ = s.trans_differ; trans_there = s.trans_there; weighed = s.weighed; pairs_there = s.pairs_there; pairs_differ = s.pairs_differ }
+sound-begun most k b s = record { named = s.named; names_differ = s.names_differ; trans_differ = s.trans_differ; trans_there = s.trans_there; places_there = s.places_there; weighed = s.weighed; pairs_there = s.pairs_there; pairs_differ = s.pairs_differ }
 
 sound-in_graph : (most : ℕ) (k : Known) (row : Row) → line_fault most k row ≡ None → IsSound most k → (a b : Bool) → begins (codes ".marking") row ≡ a → is_graph_row row ≡ b → IsSound most (in_graph k row)
 sound-in_graph most k row none s true b e f = subst (λ (x : Bool). IsSound most (cond x (record k { marking = Some (after_first row) }) (cond (is_graph_row row) (with_graph_row k row) k))) (sym e) (sound-marking most k (Some (after_first row)) s)

@@ -15,4 +15,6 @@ pub mod Steps
 pub mod Taking
 pub mod GraphRules
 pub mod Sound
+pub mod Built
+pub mod Marks
 pub mod Standing

@@ -13,7 +13,9 @@ use Rattle.astg_read.specs.declared.graph.Place.{Place as ReadPlace}
 use Rattle.astg_read.specs.declared.graph.Place.TheVariants as read_place
 use Rattle.astg_read.specs.declared.graph.Ends.{Ends}
 use Rattle.astg_read.specs.declared.entries.Entry.{Entry as ReadEntry}
+use Rattle.astg_read.specs.declared.marks.Mark.{Mark as ReadMark}
 use Rattle.astg_read.specs.Markings.{Entry}
+use Rattle.astg_read.specs.Marks.{Mark}
 use Rattle.astg_read.specs.Names.{WordOfTrans}
 use Rattle.astg_read.specs.Rows.{Row}
 use Rattle.astg_read.specs.Nodes.{Node, Trans, Place}
@@ -73,3 +75,11 @@ shown_entry e = record { place = shown_words e.place.now; tokens = shown_words e
 -- entries, in order
 abbrev pub shown_entries : List ReadEntry → List Entry
 shown_entries entries = map shown_entry entries
+
+-- a mark on a place whose name is a slice of the text
+abbrev pub shown_mark : ReadMark → Mark
+shown_mark m = record { place = shown_place m.place; tokens = m.tokens }
+
+-- marks, in order
+abbrev pub shown_marks : List ReadMark → List Mark
+shown_marks marks = map shown_mark marks

@@ -45,12 +45,18 @@ abbrev pub ArePairsIn : List TransName → List PlaceAt → List Pair → Type 0
 ArePairsIn trans all [] = Unit {0}
 ArePairsIn trans all (p ∷ ps) = IsPairIn trans all p × ArePairsIn trans all ps
 
+-- the transitions of a place between two are there
+abbrev pub is_place_in : List TransName → PlaceAt → Bool
+is_place_in trans (Named p) = true
+is_place_in trans (Between t u) = list_any (same_trans t) trans && list_any (same_trans u) trans
+
 -- names have their form and differ, as do transitions and pairs; numbers are there, and weights within the limit
 pub record IsSound (most : ℕ) (k : Known) : Type 0 where
   pub named : list_all is_named k.declared.signals ≡ true
   pub names_differ : stands_again same_name [] k.declared.signals ≡ false
   pub trans_differ : stands_again same_trans [] k.trans ≡ false
   pub trans_there : list_all (is_trans_in (length k.declared.signals)) k.trans ≡ true
+  pub places_there : list_all (is_place_in k.trans) k.places ≡ true
   pub weighed : list_all (is_weighed most) k.pairs ≡ true
   pub pairs_there : ArePairsIn k.trans k.places k.pairs
   pub pairs_differ : stands_again same_pair [] k.pairs ≡ false

@@ -9,7 +9,8 @@ use Rattle.astg_read.specs.declared.line_error.LineError.{LineError}
 use Rattle.astg_read.specs.declared.line_error.LineError.TheVariants.{Broken, NoMemory}
 use Rattle.astg_read.specs.declared.rule.ReadError.{ReadError}
 use Rattle.astg_read.specs.declared.rule.ReadError.TheVariants as errors
-use Rattle.astg_read.specs.Reading.{Meaning, Fault}
+use Rattle.astg_read.specs.Reading.{Meaning, Fault, IsSpecOf}
+use Rattle.stg_net.specs.Spec.{SpecLists}
 use Rattle.astg_read.specs.declared.kinds.LineKind.{LineKind}
 use Rattle.astg_read.specs.declared.kinds.LineKind.TheVariants as kinds
 use Rattle.astg_read.specs.declared.reader.Reader.{Reader}
@@ -17,7 +18,7 @@ use Rattle.astg_read.specs.Rows.{Word, Row, begins, begins_with_dot}
 use Rattle.astg_read.specs.Header.{without_dummies}
 use Rattle.astg_read.specs.Known.{Known}
 use Rattle.astg_read.specs.Markings.{is_bad_marking}
-use Rattle.astg_read.specs.Rules.{line_rules, first_broken, rules, breaks_directive, ends_text}
+use Rattle.astg_read.specs.Rules.{line_rules, first_broken, rules, breaks_directive, ends_text, has_too_many}
 use Rattle.astg_read.specs.Sound.{IsSound}
 use Rattle.astg_read.specs.Steps.{after_row}
 
@@ -86,9 +87,10 @@ counted too_many (Err e) = Err e
 abbrev pub IsGood : ℕ → Known → Type 0
 IsGood most k = MatchOption k.marking ⊤ (λ words. (k.has_graph ≡ true) × (is_bad_marking most k.declared k.places words ≡ false))
 
--- the signals are within the limit, the marking is good, and the lists are sound
+-- the counts are within the limits, the marking is good, and the lists are sound
 pub record IsKept (limits : Limits) (k : Known) : Type 0 where
   pub few : length k.declared.signals ≤ limits.signals
+  pub counts : has_too_many limits k ≡ false
   pub good : IsGood limits.weight k
   pub sound : IsSound limits.weight k
 
@@ -97,6 +99,12 @@ abbrev pub Gives : Meaning → Result (Unit {0}) ReadError → Result Meaning Fa
 Gives m (Ok _) read = read ≡ Ok m
 Gives m (Err (errors.Refused rule line)) read = read ≡ Err (record { rule = rule; line = line })
 Gives m (Err errors.NoMemory) read = Unit {0}
+
+-- The text stands for this specification, or has this fault, unless memory ran out.
+abbrev pub Reads : Result Meaning Fault → Result SpecLists ReadError → Type 0
+Reads read (Ok s) = (m : Meaning) × ((read ≡ Ok m) × IsSpecOf m s)
+Reads read (Err (errors.Refused rule line)) = read ≡ Err (record { rule = rule; line = line })
+Reads read (Err errors.NoMemory) = Unit {0}
 
 -- Words are added to a marking, or refused where it is wrong with them, unless memory ran out.
 abbrev pub Marks : Bool → Row → Result (Unit {0}) LineError → Row → Type 0

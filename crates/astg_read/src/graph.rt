@@ -1,11 +1,11 @@
 //! The graph that the lines have built so far, its nodes and pairs found by hash.
 
-ghost use Rattle.std.specs.Prelude.{◌≡◌, ◌++◌, ◌∷◌, [], ◌<◌, ◌≤◌, not, length, min, IfOk, OnOk, IsTrue, ◌-◌, ◌^◌};
+ghost use Rattle.std.specs.Prelude.{◌≡◌, ◌++◌, ◌∷◌, [], ◌<◌, ◌≤◌, not, length, map, min, IfOk, OnOk, IsTrue, ◌-◌, ◌^◌};
 ghost use Rattle.std.specs.List.{list_any};
 ghost use Rattle.astg_read.specs.Graphs.{same_pair, same_place, arcs};
 ghost use Rattle.astg_read.specs.Graphs as graphs;
 ghost use Rattle.astg_read.specs.Steps.{with_node, with_between, with_pairs, with_targets, no_graph};
-ghost use Rattle.astg_read.specs.Shown.{shown_node, shown_pair, shown_pairs, shown_place};
+ghost use Rattle.astg_read.specs.Shown.{shown_node, shown_pair, shown_pairs, shown_place, shown_weighed};
 
 use crate::nodes::Node;
 use crate::pairs::Pair;
@@ -156,4 +156,31 @@ impl<'a> Graph<'a> {
         }
         Ok(())
     }
+
+    /// The transitions, the places, and the weights of the pairs.
+    pub fn into_parts(self) -> GraphParts<'a>
+        ensures trans { result.trans.keys ≡ self.entry.trans }
+        ensures places { map shown_place result.places.keys ≡ self.entry.places }
+        ensures pairs { map shown_weighed result.weights.entries ≡ self.entry.pairs }
+    {
+        let Graph {
+            trans,
+            places,
+            weights,
+            arc_total: _,
+        } = self;
+        GraphParts {
+            trans,
+            places,
+            weights,
+        }
+    }
+}
+
+/// What a graph consists of.
+#[derive(Drop)]
+pub struct GraphParts<'a> {
+    pub trans: IndexSet<TransName>,
+    pub places: IndexSet<Place<'a>>,
+    pub weights: IndexMap<Ends<'a>, Option<u32>>,
 }

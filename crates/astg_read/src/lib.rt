@@ -2,10 +2,12 @@
 #![tactic(auto)]
 
 mod entries;
+mod finish;
 mod graph;
 mod kinds;
 mod line_error;
 mod marking;
+mod marks;
 mod names;
 mod nodes;
 mod pairs;
@@ -13,14 +15,13 @@ mod read;
 mod reader;
 mod rule;
 mod signals;
-mod stub;
 mod targets;
 
 pub use entries::{Entry, entries_of, is_whole, is_whole_place, named_place, starts_entry, tokens_of};
 pub use graph::Graph;
 pub use kinds::{LineKind, kind_of};
 pub use line_error::LineError;
-pub use read::read_lines;
+pub use read::{read_spec, read_with};
 pub use reader::Reader;
 pub use marking::Marking;
 pub use nodes::Node;
@@ -29,4 +30,3 @@ pub use targets::{Target, are_nodes, are_weighed, have_signal, have_unknown, tar
 pub use names::{number, read_trans_word};
 pub use rule::{ReadError, Rule};
 pub use signals::Signals;
-pub use stub::read_spec;

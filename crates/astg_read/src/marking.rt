@@ -1,15 +1,17 @@
 //! The words of a marking, as far as they have been read.
 
-ghost use Rattle.std.specs.Prelude.{◌≡◌, ◌++◌, ◌∷◌, ◌≤◌, ◌<◌, ◌^◌, [], not, ◌||◌, length, map, IfOk, OnOk};
+ghost use Rattle.std.specs.Prelude.{◌≡◌, ◌++◌, ◌∷◌, ◌≤◌, ◌<◌, ◌^◌, [], not, ◌||◌, drop, length, map, IfOk, OnOk};
 ghost use Rattle.std.specs.List.{list_any};
 ghost use Rattle.astg_read.specs.Header.{without_dummies};
 ghost use Rattle.astg_read.specs.Markings as markings;
-ghost use Rattle.astg_read.specs.Shown.{shown_entry, shown_entries, shown_place, shown_words, texts};
+ghost use Rattle.astg_read.specs.Marks as marked;
+ghost use Rattle.astg_read.specs.Shown.{shown_entry, shown_entries, shown_place, shown_words, shown_marks, texts};
 
 use crate::entries::{
     Entry, entries_of, is_whole, is_whole_place, named_place, starts_entry, tokens_of,
 };
 use crate::graph::{Graph, Place};
+use crate::marks::{Mark, marks_of};
 use crate::signals::Signals;
 use astg_lex::Word;
 use indexmap::IndexSet;
@@ -141,6 +143,23 @@ fn is_bad_marking(
     Ok(is_bad)
 }
 
+/// The words before the first `}`.
+fn before_close<'w, 'a>(words: &'w [&'a [u8]]) -> &'w [&'a [u8]]
+    ensures { shown_words result.now ≡ markings.before_close (shown_words words.now) }
+{
+    &words[..close_length(words)]
+}
+
+/// The words between `{` and `}`.
+fn entry_words<'w, 'a>(words: &'w [&'a [u8]]) -> &'w [&'a [u8]]
+    ensures { shown_words result.now ≡ markings.before_close (drop 1 (shown_words words.now)) }
+{
+    match words {
+        [] => words,
+        [_, rest @ ..] => before_close(rest),
+    }
+}
+
 /// The words after `.marking`. Contracts see them as a row.
 #[derive(Drop)]
 pub struct Marking<'a> {
@@ -212,5 +231,19 @@ impl<'a> Marking<'a> {
         ensures { IfOk result (λ is_bad. is_bad ≡ markings.is_bad_marking most (without_dummies signals.now) graph.now.places self.now) }
     {
         is_bad_marking(alloc, most, signals, graph, self.words.as_slice())
+    }
+
+    /// What the entries mark, in order.
+    pub fn marks(
+        &self,
+        alloc: Global,
+        signals: &Signals<'_>,
+    ) -> Result<Seq<Mark<'a>>, NoMemory>
+        requires { length signals.now < 2 ^ 32 }
+        ensures { IfOk result (λ marks. shown_marks marks ≡ marked.marks_of (without_dummies signals.now) (markings.entries_of self.now)) }
+    {
+        let entries = entries_of(alloc, entry_words(self.words.as_slice()))?;
+        let marks = marks_of(alloc, signals, entries.as_slice())?;
+        Ok(marks)
     }
 }

@@ -2,17 +2,22 @@
 
 ghost use Rattle.std.specs.Prelude.{◌≡◌, ◌≤◌, ◌<◌, ◌^◌, length};
 ghost use Rattle.astg_lex.specs.Lines as all_lines;
+ghost use Rattle.stg_net.specs.Net.{IsWithin};
+ghost use Rattle.stg_net.specs.declared.limits.TheConstants.Limits.{SPEC};
+ghost use Rattle.astg_read.specs.Built.{AreLimits};
 ghost use Rattle.astg_read.specs.Reading.{meaning_of, reading};
 ghost use Rattle.astg_read.specs.Reading as readings;
-ghost use Rattle.astg_read.specs.Taking.{Gives, IsKept, known_of, nothing};
-ghost use Rattle.std.specs.Prelude.{false, OnOk};
+ghost use Rattle.astg_read.specs.Taking.{Gives, IsKept, Reads, known_of, nothing};
+ghost use Rattle.std.specs.Prelude.{false, IfErr, IfOk, OnOk};
+ghost use Rattle.astg_read.specs.Standing.{StandsFor, IsUnreadBy};
 
+use crate::finish::finish;
 use crate::line_error::LineError;
 use crate::reader::Reader;
 use crate::{ReadError, Rule};
 use astg_lex::LexError;
 use std::alloc::Global;
-use stg_net::Limits;
+use stg_net::{Limits, Spec};
 
 fn line_ends(text: &[u8]) -> u32
     requires { length text.now ≤ 16777216 }
@@ -87,4 +92,35 @@ pub fn read_lines<'a>(
             Err(LexError::NoMemory) => return Err(ReadError::NoMemory),
         }
     }
+}
+
+/// Reads a text within limits, each at most that of a component; a weight of 1 is within them.
+pub fn read_with(alloc: Global, text: &[u8], limits: &Limits) -> Result<Spec, ReadError>
+    requires { AreLimits limits.now }
+    ensures value { IfOk result (λ s. StandsFor limits.now text.now s) }
+    ensures refused { IfErr result (λ e. IsUnreadBy limits.now text.now e) }
+    ensures within { IfOk result (λ s. IsWithin limits.now s.net) }
+{
+    if text.len() > limits.bytes as usize {
+        return Err(ReadError::Refused {
+            rule: Rule::TooLong,
+            line: 0,
+        });
+    }
+    let mut reader = Reader::new(alloc);
+    match read_lines(alloc, &mut reader, limits, text) {
+        Ok(()) => {}
+        Err(error) => return Err(error),
+    }
+    let spec = finish(alloc, limits, reader)?;
+    Ok(spec)
+}
+
+/// Reads a specification text.
+pub fn read_spec(alloc: Global, text: &[u8]) -> Result<Spec, ReadError>
+    ensures value { IfOk result (λ s. StandsFor SPEC text.now s) }
+    ensures refused { IfErr result (λ e. IsUnreadBy SPEC text.now e) }
+    ensures within { IfOk result (λ s. IsWithin SPEC s.net) }
+{
+    read_with(alloc, text, &Limits::SPEC)
 }

@@ -1,15 +1,16 @@
 //! The declared signals, found by name.
 
-ghost use Rattle.std.specs.Prelude.{◌≡◌, ◌<◌, ◌≤◌, ◌^◌, [], not, length, IfOk, OnOk, IfSome, Some};
+ghost use Rattle.std.specs.Prelude.{◌≡◌, ◌<◌, ◌≤◌, ◌^◌, [], not, false, length, IfOk, OnOk, IfSome, Some};
 ghost use Rattle.std.specs.List.{list_any};
 ghost use Rattle.stg_net.specs.Net.{number_of};
+ghost use Rattle.astg_read.specs.Built.{with_all_signals};
 ghost use Rattle.astg_read.specs.Header.{same_name};
-ghost use Rattle.astg_read.specs.Lists.{added};
+ghost use Rattle.astg_read.specs.Lists.{added, stands_again};
 
 use indexmap::IndexMap;
 use std::alloc::Global;
 use std::marker::Model;
-use stg_net::{Kind, NoMemory};
+use stg_net::{Kind, NetBuilder, NoMemory};
 
 /// The signals in order of declaration. Contracts see them as a list.
 #[derive(Drop)]
@@ -68,5 +69,21 @@ impl<'a> Signals<'a> {
                 Ok(true)
             }
         }
+    }
+
+    /// Adds the signals to a net without any, where their names differ. They are within the limit, so
+    /// nothing fails but for want of memory.
+    pub fn add_to(self, builder: &mut NetBuilder) -> Result<(), NoMemory>
+        requires differ { stands_again same_name [] self ≡ false }
+        requires none { builder.old.lists.signals ≡ [] }
+        ensures { OnOk result (builder.new ≡ with_all_signals builder.old self.entry) }
+    {
+        let Signals { kinds } = self;
+        for (name, kind) in kinds {
+            if builder.add_signal(name, kind).is_err() {
+                return Err(NoMemory);
+            }
+        }
+        Ok(())
     }
 }

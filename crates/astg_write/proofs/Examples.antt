@@ -10,6 +10,7 @@ use Rattle.stg_net.specs.declared.trans.Edge.TheVariants.{Rise, Fall, Toggle}
 use Rattle.stg_net.specs.declared.trans.TransName.{TransName}
 use Rattle.stg_net.specs.declared.arc.NetArc.{NetArc}
 use Rattle.stg_net.specs.Net.{NetLists}
+use Rattle.stg_net.specs.Ordered.{ordered}
 use Rattle.astg_write.specs.PlaceNames.{place_prefix}
 use Rattle.astg_write.specs.ComponentText.{component_text}
 
@@ -73,3 +74,7 @@ component_text-lone = refl
 place_prefix-used : place_prefix (signal Input (codes "p1_x") ∷ signal Input (codes "q") ∷ signal Input (codes "p3_") ∷ []) ≡ codes "p2_"
 unfolding digits
 place_prefix-used = refl
+
+-- its order is that of its text
+ordered-c_element : ordered c_element ≡ c_element
+ordered-c_element = refl

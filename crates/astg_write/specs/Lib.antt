@@ -1,3 +1,4 @@
 pub mod PlaceNames
 pub mod ComponentText
 pub mod Writable
+pub mod ReadsBack

@@ -3,6 +3,9 @@
 ghost use Rattle.std.specs.Prelude.{◌≡◌, ◌<◌, ◌^◌, ◌++◌, length, IfOk, OnOk};
 ghost use Rattle.astg_write.specs.ComponentText.{net_lines, component_text};
 ghost use Rattle.astg_write.specs.Writable.{IsWritable};
+ghost use Rattle.astg_write.specs.ReadsBack.{ReadsBack};
+ghost use Rattle.stg_net.specs.Net.{NetLists};
+ghost use Rattle.stg_net.specs.Ordered.{ordered};
 
 use crate::graph::push_graph;
 use crate::header::{make_model_line, push_header};
@@ -28,6 +31,7 @@ fn push_lines(alloc: Global, text: &mut Text, prefix: &[u8], net: &Net) -> Resul
 pub fn write_net(alloc: Global, net: &Net, part: u32) -> Result<Text, NoMemory>
     requires { IsWritable net.now }
     ensures value { IfOk result (λ text. text ≡ component_text net.now part) }
+    ensures reads_back { IfOk result (λ text. (whole : NetLists) → net.now ≡ ordered whole → ReadsBack net.now text) }
 {
     let prefix = find_prefix(alloc, net.signals())?;
     let mut text = make_model_line(alloc, part)?;

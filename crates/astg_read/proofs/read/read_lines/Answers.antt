@@ -1,16 +1,17 @@
-use Rattle.std.proofs.Common.{◌≡◌, ◌∙◌, ◌+◌, sym, ap, subst, inl, inr, ℕ, Some, None, Ok, Err, cond, IfSome, true, false}
+use Rattle.std.proofs.Common.{◌≡◌, ◌∙◌, ◌+◌, sym, ap, subst, inl, inr, ℕ, Some, None, Ok, Err, cond, IfSome, true, false, [], map}
 use Rattle.astg_lex.specs.declared.line.Line.{Line}
 use Rattle.astg_lex.specs.declared.line.LexError.{LexError}
 use Rattle.astg_lex.specs.declared.line.LexError.TheVariants as lex_errors
-use Rattle.astg_lex.specs.Lexing.{Lexing, Advances}
+use Rattle.astg_lex.specs.Lexing.{Lexing, Advances, lines_left}
+use Rattle.astg_lex.specs.Lines.{line_ends}
 use Rattle.astg_read.specs.declared.rule.Rule.TheVariants.{BadByte}
 use Rattle.astg_read.specs.Known.{Known}
-use Rattle.astg_read.specs.Reading.{meaning_of}
-use Rattle.astg_read.specs.Rules.{ends_text}
+use Rattle.astg_read.specs.Reading.{meaning_of, reading_after}
+use Rattle.astg_read.specs.Rules.{ends_text, seen_line}
 use Rattle.astg_read.specs.Shown.{texts}
 use Rattle.astg_read.specs.Steps.{after_row}
 use Rattle.astg_read.specs.Taking.{IsKept, Takes, known_of, verdict, taken}
-use Rattle.astg_read.proofs.Kept.{kept-after}
+use Rattle.astg_read.proofs.Kept.{kept-after, kept-nothing}
 use Rattle.astg_read.proofs.ReadLemmas.{Reached, step-broken, step-end, step-more, step-bad, reading-within}
 use Rattle.astg_read.proofs.read.read_lines.Goals as goal
 
@@ -30,6 +31,26 @@ returns-then-ends-clause-gives c =
     ∙ step-end limits c.args.text.now c.loop-line.lines c.next_line.new.self c.in-Ok-Some.line.number c.in-Ok-Some.line.words k c.loop-line.invariant.reached (subst (λ o. IfSome o (λ (line : Line). Advances c.loop-line.lines c.next_line.new.self line.number line.words)) c.in-Ok-Some.field-0-is c.in-Ok-Some.ensures.line)
         (ap (λ ws. verdict limits k (texts ws)) (sym c.as_slice-in-Ok-Some.ensures) ∙ c.in-Ok.ensures.0) ends
     ∙ ap (λ q. Ok (meaning_of q)) (sym (c.in-Ok.ensures.1 ∙ ap (λ ws. taken k (texts ws)) c.as_slice-in-Ok-Some.ensures ∙ ap (λ b. cond b k (after_row k (texts c.in-Ok-Some.line.words))) ends))
+
+pub returns-then-ends-clause-kept : goal.returns-then-ends-clause-kept
+returns-then-ends-clause-kept c =
+    let limits = c.args.limits.now in let k = known_of c.loop-line.reader in
+    let row = texts c.in-Ok-Some.line.words in
+    let none : verdict limits k row ≡ None = ap (λ ws. verdict limits k (texts ws)) (sym c.as_slice-in-Ok-Some.ensures) ∙ c.in-Ok.ensures.0 in
+    let took : known_of c.take_line.new.self ≡ taken k row = c.in-Ok.ensures.1 ∙ ap (λ ws. taken k (texts ws)) c.as_slice-in-Ok-Some.ensures in
+    let Q : Known → Type 0 = λ q. IsKept limits q in
+    subst Q (sym took) (kept-after limits k row c.loop-line.invariant.kept none)
+
+pub loop-line-init : goal.loop-line-init
+loop-line-init c =
+    let limits = c.args.limits.now in
+    record {
+      reached = record {
+        rows = [];
+        known_is = c.requires.start;
+        number_is = ap (λ (l : Lexing). l.number) c.lines-lines.ensures;
+        same = ap (λ l. reading_after false limits (line_ends c.args.text.now + 1) [] (map seen_line (lines_left l))) c.lines-lines.ensures };
+      kept = subst (λ (q : Known). IsKept limits q) (sym c.requires.start) (kept-nothing limits) }
 
 pub returns-in-Err-Broken-clause-gives : goal.returns-in-Err-Broken-clause-gives
 returns-in-Err-Broken-clause-gives c =

@@ -1,0 +1,314 @@
+//! The specification of what the lines say.
+
+ghost use Rattle.std.specs.Prelude.{◌≡◌, ◌≢◌, ◌++◌, ◌<◌, ◌≤◌, ◌^◌, [], length, map, true, false, All, IfOk, OnOk};
+ghost use Rattle.std.specs.List.{list_all, list_any};
+ghost use Rattle.stg_net.specs.declared.trans.TransName.{TransName};
+ghost use Rattle.stg_net.specs.Building.{HasEnds, with_arc};
+ghost use Rattle.astg_read.specs.Built.{AreLimits, IsBuilt, IsReady, AreReady, known_by, with_all_trans, with_all_tokens, with_all_arcs};
+ghost use Rattle.astg_read.specs.Graphs.{PlaceAt};
+ghost use Rattle.astg_read.specs.Graphs as graphs;
+ghost use Rattle.astg_read.specs.Marks as marked;
+ghost use Rattle.astg_read.specs.Header.{same_name, without_dummies};
+ghost use Rattle.astg_read.specs.Lists.{stands_again};
+ghost use Rattle.astg_read.specs.Nodes as nodes;
+ghost use Rattle.astg_read.specs.Reading as readings;
+ghost use Rattle.astg_read.specs.Sound.{is_trans_in};
+ghost use Rattle.astg_read.specs.Taking.{IsKept, known_of};
+ghost use Rattle.stg_net.specs.Net.{IsWithin};
+ghost use Rattle.astg_read.specs.Shown.{shown_marks, shown_node, shown_place, shown_weighed};
+
+use crate::graph::{Ends, Graph, GraphParts, Place};
+use crate::marks::{Mark, tokens_at};
+use crate::marking::Marking;
+use crate::nodes::Node;
+use crate::reader::Reader;
+use crate::signals::Signals;
+use indexmap::{IndexMap, IndexSet};
+use std::alloc::Global;
+use stg_net::{Limits, NetArc, NetBuilder, NoMemory, PlaceName, Seq, Spec, TransName};
+
+/// The number of a transition; 0 where it isn't there.
+fn trans_number(trans: &IndexSet<TransName>, name: TransName) -> u32
+    requires { length trans.now.keys < 2 ^ 32 }
+    ensures { result ≡ graphs.trans_number trans.now.keys name }
+{
+    match trans.get_index_of(&name) {
+        Some(at) => at as u32,
+        None => 0,
+    }
+}
+
+/// The number of a place; 0 where it isn't there.
+fn place_number(places: &IndexSet<Place<'_>>, place: &Place<'_>) -> u32
+    requires { length places.now.keys < 2 ^ 32 }
+    ensures { result ≡ graphs.place_number (map shown_place places.now.keys) (shown_place place.now) }
+{
+    match places.get_index_of(place) {
+        Some(at) => at as u32,
+        None => 0,
+    }
+}
+
+/// Adds transitions that differ. They are within the limit, so nothing fails but for want of memory.
+fn add_trans(builder: &mut NetBuilder, trans: &[TransName]) -> Result<(), NoMemory>
+    requires there { list_all (is_trans_in (length builder.old.lists.signals)) trans.now ≡ true }
+    requires differ { stands_again nodes.same_trans [] trans.now ≡ false }
+    requires none { builder.old.lists.trans ≡ [] }
+    ensures { OnOk result (builder.new ≡ with_all_trans builder.old trans.now) }
+{
+    for name in trans {
+        if builder.add_trans(*name).is_err() {
+            return Err(NoMemory);
+        }
+    }
+    Ok(())
+}
+
+fn add_arc(builder: &mut NetBuilder, arc: NetArc) -> Result<(), NoMemory>
+    requires place { arc.place < length builder.old.lists.tokens }
+    requires trans { arc.trans < length builder.old.lists.trans }
+    requires least { 1 ≤ arc.weight }
+    requires most { arc.weight ≤ builder.old.limits.weight }
+    requires fresh { All (λ a. HasEnds arc a → ⊥) builder.old.lists.arcs }
+    ensures { OnOk result (builder.new ≡ with_arc builder.old arc) }
+{
+    match builder.add_arc(arc) {
+        Ok(()) => Ok(()),
+        Err(_) => Err(NoMemory),
+    }
+}
+
+/// Adds places with their tokens. They are within the limit, so nothing fails but for want of memory.
+fn add_places(
+    builder: &mut NetBuilder,
+    marks: &[Mark<'_>],
+    places: &[Place<'_>],
+) -> Result<(), NoMemory>
+    requires { (p : PlaceAt) → marked.tokens_at (shown_marks marks.now) p ≤ builder.old.limits.weight }
+    ensures { OnOk result (builder.new ≡ with_all_tokens builder.old (map (marked.tokens_at (shown_marks marks.now)) (map shown_place places.now))) }
+{
+    for place in places {
+        if builder.add_place(tokens_at(marks, place)).is_err() {
+            return Err(NoMemory);
+        }
+    }
+    Ok(())
+}
+
+/// Adds the arc from a transition into a place.
+fn add_into(
+    builder: &mut NetBuilder,
+    trans: &IndexSet<TransName>,
+    places: &IndexSet<Place<'_>>,
+    from: TransName,
+    to: &[u8],
+    weight: Option<u32>,
+) -> Result<(), NoMemory>
+    requires { IsReady builder.old trans.now.keys (map shown_place places.now.keys) (record { source = nodes.Trans from; target = nodes.Place to.now; weight = weight }) }
+    ensures { OnOk result (builder.new ≡ with_all_arcs builder.old (graphs.arcs_of trans.now.keys (map shown_place places.now.keys) (record { source = nodes.Trans from; target = nodes.Place to.now; weight = weight }))) }
+{
+    let arc = NetArc {
+        place: place_number(places, &Place::Named(to)),
+        trans: trans_number(trans, from),
+        into: true,
+        weight: weight.unwrap_or(1),
+    };
+    add_arc(builder, arc)
+}
+
+/// Adds the arc out of a place to a transition.
+fn add_out_of(
+    builder: &mut NetBuilder,
+    trans: &IndexSet<TransName>,
+    places: &IndexSet<Place<'_>>,
+    from: &[u8],
+    to: TransName,
+    weight: Option<u32>,
+) -> Result<(), NoMemory>
+    requires { IsReady builder.old trans.now.keys (map shown_place places.now.keys) (record { source = nodes.Place from.now; target = nodes.Trans to; weight = weight }) }
+    ensures { OnOk result (builder.new ≡ with_all_arcs builder.old (graphs.arcs_of trans.now.keys (map shown_place places.now.keys) (record { source = nodes.Place from.now; target = nodes.Trans to; weight = weight }))) }
+{
+    let arc = NetArc {
+        place: place_number(places, &Place::Named(from)),
+        trans: trans_number(trans, to),
+        into: false,
+        weight: weight.unwrap_or(1),
+    };
+    add_arc(builder, arc)
+}
+
+/// Adds the two arcs of the place between two transitions.
+fn add_both(
+    builder: &mut NetBuilder,
+    trans: &IndexSet<TransName>,
+    places: &IndexSet<Place<'_>>,
+    from: TransName,
+    to: TransName,
+    weight: Option<u32>,
+) -> Result<(), NoMemory>
+    requires { IsReady builder.old trans.now.keys (map shown_place places.now.keys) (record { source = nodes.Trans from; target = nodes.Trans to; weight = weight }) }
+    ensures { OnOk result (builder.new ≡ with_all_arcs builder.old (graphs.arcs_of trans.now.keys (map shown_place places.now.keys) (record { source = nodes.Trans from; target = nodes.Trans to; weight = weight }))) }
+{
+    let place = place_number(places, &Place::Between(from, to));
+    let into = NetArc {
+        place,
+        trans: trans_number(trans, from),
+        into: true,
+        weight: 1,
+    };
+    let out = NetArc {
+        place,
+        trans: trans_number(trans, to),
+        into: false,
+        weight: 1,
+    };
+    add_arc(builder, into)?;
+    add_arc(builder, out)
+}
+
+/// Adds the arcs of a pair. An arc between two places is none, and its line was refused.
+fn add_pair(
+    builder: &mut NetBuilder,
+    trans: &IndexSet<TransName>,
+    places: &IndexSet<Place<'_>>,
+    source: Node<'_>,
+    target: Node<'_>,
+    weight: Option<u32>,
+) -> Result<(), NoMemory>
+    requires { IsReady builder.old trans.now.keys (map shown_place places.now.keys) (record { source = shown_node source; target = shown_node target; weight = weight }) }
+    ensures { OnOk result (builder.new ≡ with_all_arcs builder.old (graphs.arcs_of trans.now.keys (map shown_place places.now.keys) (record { source = shown_node source.entry; target = shown_node target.entry; weight = weight }))) }
+{
+    match (source, target) {
+        (Node::Trans(from), Node::Place(to)) => {
+            add_into(builder, trans, places, from, to, weight)
+        }
+        (Node::Place(from), Node::Trans(to)) => {
+            add_out_of(builder, trans, places, from, to, weight)
+        }
+        (Node::Trans(from), Node::Trans(to)) => {
+            add_both(builder, trans, places, from, to, weight)
+        }
+        (Node::Place(_), Node::Place(_)) => Ok(()),
+    }
+}
+
+/// Adds the arcs of all pairs.
+fn add_arcs(
+    builder: &mut NetBuilder,
+    trans: &IndexSet<TransName>,
+    places: &IndexSet<Place<'_>>,
+    weights: IndexMap<Ends<'_>, Option<u32>>,
+) -> Result<(), NoMemory>
+    requires { AreReady builder.old trans.now.keys (map shown_place places.now.keys) (map shown_weighed weights.entries) }
+    ensures { OnOk result (builder.new ≡ with_all_arcs builder.old (graphs.arcs trans.now.keys (map shown_place places.now.keys) (map shown_weighed weights.entry.entries))) }
+{
+    for (ends, weight) in weights {
+        add_pair(builder, trans, places, ends.source, ends.target, weight)?;
+    }
+    Ok(())
+}
+
+/// The name of a place: its own, or the numbers of two transitions.
+fn place_name(
+    alloc: Global,
+    trans: &IndexSet<TransName>,
+    place: &Place<'_>,
+) -> Result<PlaceName, NoMemory>
+    requires { length trans.now.keys < 2 ^ 32 }
+    ensures { IfOk result (λ name. name ≡ readings.place_name trans.now.keys (shown_place place.now)) }
+{
+    match place {
+        Place::Named(name) => Ok(PlaceName::Named(Seq::from_slice(alloc, name)?)),
+        Place::Between(from, to) => Ok(PlaceName::Between {
+            from: trans_number(trans, *from),
+            to: trans_number(trans, *to),
+        }),
+    }
+}
+
+/// The names of places, in their order.
+fn place_names(
+    alloc: Global,
+    trans: &IndexSet<TransName>,
+    places: &[Place<'_>],
+) -> Result<Seq<PlaceName>, NoMemory>
+    requires { length trans.now.keys < 2 ^ 32 }
+    ensures { IfOk result (λ names. names ≡ map (readings.place_name trans.now.keys) (map shown_place places.now)) }
+{
+    let mut names = Seq::new(alloc);
+    for place in places {
+        names.push(place_name(alloc, trans, place)?)?;
+    }
+    Ok(names)
+}
+
+/// The specification of signals, a graph, and marks on its places. What is added is within the
+/// limits, so nothing fails but for want of memory.
+pub fn build<'a>(
+    alloc: Global,
+    limits: &Limits,
+    signals: Signals<'a>,
+    graph: Graph<'a>,
+    marks: &[Mark<'a>],
+) -> Result<Spec, NoMemory>
+    requires limits { AreLimits limits.now }
+    requires kept { IsKept limits.now (known_by signals graph) }
+    requires tokens { (p : PlaceAt) → marked.tokens_at (shown_marks marks.now) p ≤ limits.now.weight }
+    ensures value { IfOk result (λ s. IsBuilt signals.entry graph.entry (map (marked.tokens_at (shown_marks marks.now)) graph.entry.places) s) }
+    ensures within { IfOk result (λ s. IsWithin limits.now s.net) }
+{
+    let mut builder = NetBuilder::new(alloc, *limits);
+    signals.add_to(&mut builder)?;
+    let GraphParts {
+        trans,
+        places,
+        weights,
+    } = graph.into_parts();
+    let names = place_names(alloc, &trans, places.as_slice())?;
+    add_trans(&mut builder, trans.as_slice())?;
+    add_places(&mut builder, marks, places.as_slice())?;
+    add_arcs(&mut builder, &trans, &places, weights)?;
+    let net = builder.finish()?;
+    Ok(Spec::new(net, names))
+}
+
+/// What a marking marks, and nothing where there is no marking.
+fn marks_in<'a>(
+    alloc: Global,
+    signals: &Signals<'_>,
+    marking: &Option<Marking<'a>>,
+) -> Result<Seq<Mark<'a>>, NoMemory>
+    requires { length signals.now < 2 ^ 32 }
+    ensures { IfOk result (λ marks. (p : PlaceAt) → marked.tokens_at (shown_marks marks) p ≡ readings.tokens_by (without_dummies signals.now) marking.now p) }
+{
+    match marking {
+        None => Ok(Seq::new(alloc)),
+        Some(marking) => {
+            let marks = marking.marks(alloc, signals)?;
+            Ok(marks)
+        }
+    }
+}
+
+/// The specification of what the lines say.
+pub fn finish<'a>(
+    alloc: Global,
+    limits: &Limits,
+    reader: Reader<'a>,
+) -> Result<Spec, NoMemory>
+    requires limits { AreLimits limits.now }
+    requires kept { IsKept limits.now (known_of reader) }
+    ensures spec { IfOk result (λ s. readings.IsSpecOf (readings.meaning_of (known_of reader.entry)) s) }
+    ensures within { IfOk result (λ s. IsWithin limits.now s.net) }
+{
+    let Reader {
+        alloc: _,
+        has_graph: _,
+        signals,
+        graph,
+        marking,
+    } = reader;
+    let marks = marks_in(alloc, &signals, &marking)?;
+    let spec = build(alloc, limits, signals, graph, marks.as_slice())?;
+    Ok(spec)
+}
