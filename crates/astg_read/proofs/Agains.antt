@@ -1,6 +1,6 @@
 -- Lists in which nothing stands again.
-use Rattle.std.proofs.Common.{◌≡◌, ℕ, List, [], ◌∷◌, ◌++◌, Bool, true, false, cond, ◌||◌, ◌&&◌, inl, inr, refl, sym, ap, ◌∙◌, append_assoc, append-nil}
-use Rattle.std.proofs.lemmas.Bool.{cases_Bool, or_parts, and_parts, and_from, or_left, or_right}
+use Rattle.std.proofs.Common.{◌≡◌, List, [], ◌∷◌, ◌++◌, Bool, true, false, cond, ◌||◌, inl, inr, refl, sym, ap, ◌∙◌, append_assoc, append-nil}
+use Rattle.std.proofs.lemmas.Bool.{cases_Bool, and_parts, and_from, or_left, or_right}
 use Rattle.std.specs.List.{list_any, list_all}
 use Rattle.astg_read.specs.Lists.{stands_again, added, firsts}
 
@@ -27,8 +27,9 @@ module _ {X : Type 0} (same : X → X → Bool) where
   -- one that is added doesn't stand again
   again-added : (seen : List X) (x : X) → stands_again same [] seen ≡ false → stands_again same [] (added same seen x) ≡ false
   again-added seen x h = elim (cases_Bool (list_any (same x) seen)) [
-      inl k ↦ ap (λ b. stands_again same [] (cond b seen (seen ++ x ∷ []))) k ∙ h
-    | inr k ↦ ap (λ b. stands_again same [] (cond b seen (seen ++ x ∷ []))) k ∙ again-more seen (x ∷ []) h (or_false (list_any (same x) seen) ∙ k) ]
+    | inl k ↦ ap (λ b. stands_again same [] (cond b seen (seen ++ x ∷ []))) k ∙ h
+    | inr k ↦ ap (λ b. stands_again same [] (cond b seen (seen ++ x ∷ []))) k ∙ again-more seen (x ∷ []) h (or_false (list_any (same x) seen) ∙ k)
+  ]
 
   pub again-firsts : (seen xs : List X) → stands_again same [] seen ≡ false → stands_again same [] (firsts same seen xs) ≡ false
   again-firsts seen [] h = h
@@ -41,8 +42,9 @@ module _ {X : Type 0} (same : X → X → Bool) where
 
   all-added : (p : X → Bool) (seen : List X) (x : X) → list_all p seen ≡ true → p x ≡ true → list_all p (added same seen x) ≡ true
   all-added p seen x h k = elim (cases_Bool (list_any (same x) seen)) [
-      inl e ↦ ap (λ b. list_all p (cond b seen (seen ++ x ∷ []))) e ∙ h
-    | inr e ↦ ap (λ b. list_all p (cond b seen (seen ++ x ∷ []))) e ∙ all-append p seen (x ∷ []) h (and_from (p x) true k refl) ]
+    | inl e ↦ ap (λ b. list_all p (cond b seen (seen ++ x ∷ []))) e ∙ h
+    | inr e ↦ ap (λ b. list_all p (cond b seen (seen ++ x ∷ []))) e ∙ all-append p seen (x ∷ []) h (and_from (p x) true k refl)
+  ]
 
   pub all-firsts : (p : X → Bool) (seen xs : List X) → list_all p seen ≡ true → list_all p xs ≡ true → list_all p (firsts same seen xs) ≡ true
   all-firsts p seen [] h k = h
@@ -51,8 +53,9 @@ module _ {X : Type 0} (same : X → X → Bool) where
   -- one that was added is there
   pub any-added : (seen : List X) (x : X) → same x x ≡ true → list_any (same x) (added same seen x) ≡ true
   any-added seen x r = elim (cases_Bool (list_any (same x) seen)) [
-      inl e ↦ ap (λ b. list_any (same x) (cond b seen (seen ++ x ∷ []))) e ∙ e
-    | inr e ↦ ap (λ b. list_any (same x) (cond b seen (seen ++ x ∷ []))) e ∙ last seen ]
+    | inl e ↦ ap (λ b. list_any (same x) (cond b seen (seen ++ x ∷ []))) e ∙ e
+    | inr e ↦ ap (λ b. list_any (same x) (cond b seen (seen ++ x ∷ []))) e ∙ last seen
+  ]
     where
       last : (ys : List X) → list_any (same x) (ys ++ x ∷ []) ≡ true
       last [] = or_left (same x x) false r

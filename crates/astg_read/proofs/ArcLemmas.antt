@@ -1,5 +1,5 @@
 -- The arcs of different pairs have different ends.
-use Rattle.std.proofs.Common.{◌≡◌, ◌≢◌, ℕ, ◌+◌, ◌<◌, zero, suc, List, [], ◌∷◌, ◌++◌, Bool, true, false, cond, not, ◌||◌, ◌&&◌, nat_eq, nat_le, ◌≤◌, drop, get_or, length, position, unwrap_or, flat_map, inl, inr, refl, sym, ap, subst, ◌∙◌, Some, None, Option, All, arith}
+use Rattle.std.proofs.Common.{◌≡◌, ◌≢◌, ℕ, ◌+◌, ◌<◌, zero, suc, List, [], ◌∷◌, ◌++◌, Bool, true, false, cond, not, ◌||◌, ◌&&◌, nat_eq, nat_le, ◌≤◌, drop, get_or, length, position, unwrap_or, inl, inr, refl, sym, ap, subst, ◌∙◌, Some, None, Option, All, arith}
 use Rattle.std.proofs.lemmas.Bool.{cases_Bool, or_parts, and_parts, and_from, true≢false, false≢true, eqb-true, leb-true}
 use Rattle.std.proofs.lemmas.List.Elements.{All-nil, All-cons, All-append}
 use Rattle.std.proofs.lemmas.Slice.Eq.{bytes_eq-Decides}
@@ -15,9 +15,8 @@ use Rattle.astg_read.specs.Targets.{is_weight}
 use Rattle.astg_read.specs.Nodes.{Node, Trans, Place, same_edge, same_trans, same_node}
 use Rattle.astg_read.specs.Lists.{stands_again}
 use Rattle.astg_read.specs.Graphs.{Pair, PlaceAt, Named, Between, same_pair, same_place, trans_number, place_number, arcs_between, arcs_of, arcs}
-use Rattle.astg_read.specs.Sound.{IsNodeIn, IsBetweenIn, IsPairIn, ArePairsIn}
+use Rattle.astg_read.specs.Sound.{IsNodeIn, IsBetweenIn, ArePairsIn}
 use Rattle.astg_read.proofs.NumberLemmas.{position_there, same_trans-refl, found_within}
-use Rattle.astg_read.proofs.GraphSound.{same_place-refl}
 
 edge-eq : (a b : Edge) → same_edge a b ≡ true → a ≡ b
 edge-eq Rise Rise h = refl
@@ -47,13 +46,16 @@ module _ {X : Type 0} (same : X → X → Bool) (eq : (x y : X) → same x y ≡
   first-same : (xs : List X) (x y : X) → list_any (same x) xs ≡ true → list_any (same y) xs ≡ true → position_or_len (same x) xs ≡ position_or_len (same y) xs → x ≡ y
   first-same [] x y h k e = absurd (false≢true h)
   first-same (z ∷ zs) x y h k e = elim (cases_Bool (same x z)) [
-      inl a ↦ elim (cases_Bool (same y z)) [
-          inl b ↦ eq x z a ∙ sym (eq y z b)
-        | inr b ↦ absurd (omega (arith, e, ap {B = ℕ} (λ c. cond (not c) (1 + position_or_len (same x) zs) 0) a, ap {B = ℕ} (λ c. cond (not c) (1 + position_or_len (same y) zs) 0) b)) ]
+    | inl a ↦ elim (cases_Bool (same y z)) [
+      | inl b ↦ eq x z a ∙ sym (eq y z b)
+      | inr b ↦ absurd (omega (arith, e, ap {B = ℕ} (λ c. cond (not c) (1 + position_or_len (same x) zs) 0) a, ap {B = ℕ} (λ c. cond (not c) (1 + position_or_len (same y) zs) 0) b))
+    ]
     | inr a ↦ elim (cases_Bool (same y z)) [
-          inl b ↦ absurd (omega (arith, e, ap {B = ℕ} (λ c. cond (not c) (1 + position_or_len (same x) zs) 0) a, ap {B = ℕ} (λ c. cond (not c) (1 + position_or_len (same y) zs) 0) b))
-        | inr b ↦ first-same zs x y (sym (ap (λ c. c || list_any (same x) zs) a) ∙ h) (sym (ap (λ c. c || list_any (same y) zs) b) ∙ k)
-            (omega (arith, e, ap {B = ℕ} (λ c. cond (not c) (1 + position_or_len (same x) zs) 0) a, ap {B = ℕ} (λ c. cond (not c) (1 + position_or_len (same y) zs) 0) b)) ] ]
+      | inl b ↦ absurd (omega (arith, e, ap {B = ℕ} (λ c. cond (not c) (1 + position_or_len (same x) zs) 0) a, ap {B = ℕ} (λ c. cond (not c) (1 + position_or_len (same y) zs) 0) b))
+      | inr b ↦ first-same zs x y (sym (ap (λ c. c || list_any (same x) zs) a) ∙ h) (sym (ap (λ c. c || list_any (same y) zs) b) ∙ k)
+          (omega (arith, e, ap {B = ℕ} (λ c. cond (not c) (1 + position_or_len (same x) zs) 0) a, ap {B = ℕ} (λ c. cond (not c) (1 + position_or_len (same y) zs) 0) b))
+    ]
+  ]
 
   number-same : (xs : List X) (x y : X) → list_any (same x) xs ≡ true → list_any (same y) xs ≡ true → unwrap_or (position (same x) xs) 0 ≡ unwrap_or (position (same y) xs) 0 → x ≡ y
   number-same xs x y h k e = first-same xs x y h k (sym (ap (λ o. unwrap_or o 0) (position_there (same x) xs h)) ∙ e ∙ ap (λ o. unwrap_or o 0) (position_there (same y) xs k))
@@ -107,9 +109,10 @@ AllArcs Q (b ∷ bs) = Q b × AllArcs Q bs
 pub arcs-from : (ts : List TransName) (ps : List PlaceAt) (w : ℕ) (m n : Node) → IsNodeIn ts ps m → IsNodeIn ts ps n → IsBetweenIn ps m n → AllArcs (IsArcFrom ts ps m n) (arcs_between ts ps w m n)
 arcs-from ts ps w (Trans t) (Place p) h k l = (record { arrow = record { place = Named p; trans = t; into = true }; weight = w; is = refl; source = refl; target = refl; inside = (h, k) }, tt)
 arcs-from ts ps w (Place p) (Trans t) h k l = (record { arrow = record { place = Named p; trans = t; into = false }; weight = w; is = refl; source = refl; target = refl; inside = (k, h) }, tt)
-arcs-from ts ps w (Trans t) (Trans u) h k l =
-    (record { arrow = record { place = Between t u; trans = t; into = true }; weight = 1; is = refl; source = refl; target = refl; inside = (h, l) },
-      (record { arrow = record { place = Between t u; trans = u; into = false }; weight = 1; is = refl; source = refl; target = refl; inside = (k, l) }, tt))
+arcs-from ts ps w (Trans t) (Trans u) h k l = (
+  record { arrow = record { place = Between t u; trans = t; into = true }; weight = 1; is = refl; source = refl; target = refl; inside = (h, l) },
+  (record { arrow = record { place = Between t u; trans = u; into = false }; weight = 1; is = refl; source = refl; target = refl; inside = (k, l) }, tt),
+)
 arcs-from ts ps w (Place p) (Place q) h k l = tt
 
 same_node-refl : (n : Node) → same_node n n ≡ true
@@ -136,9 +139,9 @@ arc-fresh ts ps p a [] f h k = All-nil (λ b. HasEnds a b → ⊥)
 arc-fresh ts ps p a (q ∷ done) f h k =
     let parts = or_parts (same_pair p q) (list_any (same_pair p) done) k in
     All-append (λ b. HasEnds a b → ⊥) (arcs_of ts ps q) (arcs ts ps done)
-      (all-from (λ b. HasEnds a b → ⊥) (λ b g. arcs-apart ts ps p.source p.target q.source q.target a b f g parts.0) (arcs_of ts ps q)
-        (arcs-from ts ps (unwrap_or q.weight 1) q.source q.target h.0.source_there h.0.target_there h.0.between_there))
-      (arc-fresh ts ps p a done f h.1 parts.1)
+    (all-from (λ b. HasEnds a b → ⊥) (λ b g. arcs-apart ts ps p.source p.target q.source q.target a b f g parts.0) (arcs_of ts ps q)
+    (arcs-from ts ps (unwrap_or q.weight 1) q.source q.target h.0.source_there h.0.target_there h.0.between_there))
+    (arc-fresh ts ps p a done f h.1 parts.1)
 
 -- the transitions so far, where the next one stands nowhere among them
 all-other : (x : TransName) (seen : List TransName) → list_any (same_trans x) seen ≡ false → All (λ t. t ≢ x) seen
@@ -183,7 +186,8 @@ module _ (b : Building) (ts : List TransName) (ps : List PlaceAt) (p : Pair) (r 
   meets a f = record {
     place = subst (λ (y : NetArc). y.place < length b.lists.tokens) (sym f.is) (place-below f.arrow.place f.inside.1);
     trans = subst (λ (y : NetArc). y.trans < length b.lists.trans) (sym f.is) (trans-below f.arrow.trans f.inside.0);
-    fresh = arc-new a f }
+    fresh = arc-new a f;
+  }
 
 -- an arc of the other way is fresh after the first one
 pub second-fresh : (xs : List NetArc) (a c : NetArc) → a.into ≡ true → c.into ≡ false → All (λ x. HasEnds c x → ⊥) xs → All (λ x. HasEnds c x → ⊥) (xs ++ a ∷ [])

@@ -1,5 +1,5 @@
 -- A net that was built is a specification's.
-use Rattle.std.proofs.Common.{◌≡◌, ℕ, ◌≤◌, ◌<◌, List, [], ◌∷◌, ◌++◌, Bool, true, false, ◌&&◌, ◌||◌, inl, inr, nat_lt, IsTrue, map, length, get_or, All, refl, sym, ap, subst, ◌∙◌, arith, rules}
+use Rattle.std.proofs.Common.{◌≡◌, ℕ, ◌≤◌, ◌<◌, List, [], ◌∷◌, Bool, true, false, ◌||◌, inl, inr, nat_lt, IsTrue, map, length, All, sym, ap, subst, ◌∙◌, arith, rules}
 use Rattle.std.proofs.lemmas.Bool.{and_parts, or_parts, ltb-true, lt-ltb, cases_lt, true≢false}
 use Rattle.std.proofs.lemmas.List.{length-map}
 use Rattle.std.proofs.lemmas.List.Elements.{All-nil, All-cons}
@@ -8,11 +8,10 @@ use Rattle.stg_net.specs.declared.limits.Limits.{Limits}
 use Rattle.stg_net.specs.declared.limits.TheConstants.Limits.{PART}
 use Rattle.stg_net.specs.declared.signal.Signal.{Signal}
 use Rattle.stg_net.specs.declared.trans.TransName.{TransName}
-use Rattle.stg_net.specs.declared.arc.NetArc.{NetArc}
 use Rattle.stg_net.specs.declared.spec.PlaceName.{PlaceName}
-use Rattle.stg_net.specs.Net.{NetLists, IsNet, IsWithin}
-use Rattle.stg_net.specs.Names.{is_name, IsWellNamed}
-use Rattle.stg_net.specs.Spec.{SpecLists, IsSpec, IsPlaceNameOf}
+use Rattle.stg_net.specs.Net.{NetLists, IsWithin}
+use Rattle.stg_net.specs.Names.{is_name}
+use Rattle.stg_net.specs.Spec.{IsSpec, IsPlaceNameOf}
 use Rattle.astg_read.specs.Built.{AreLimits, AreReady, IsBuilt, known_by}
 use Rattle.astg_read.specs.Graphs.{Pair, PlaceAt, Named, Between}
 use Rattle.astg_read.specs.Known.{GraphLists, arcs_in}
@@ -59,7 +58,8 @@ within-part l n a w = record {
   places = omega (arith, w.places, a.places);
   arcs = omega (arith, w.arcs, a.arcs);
   tokens = (λ k d below. let h = w.tokens k d below in omega (arith, h, a.weight));
-  weights = (λ k d below. let h = w.weights k d below in omega (arith, h, a.weight)) }
+  weights = (λ k d below. let h = w.weights k d below in omega (arith, h, a.weight));
+}
 
 pub spec-from : (l : Limits) (most : ℕ) (ss : List Signal) (g : GraphLists) (f : PlaceAt → ℕ) (n : NetLists) (names : List PlaceName) → AreLimits l → IsSound most (known_by ss g) → IsWithin l n
     → IsBuilt ss g (map f g.places) (record { net = n; place_names = names }) → IsSpec (record { net = n; place_names = names })
@@ -68,10 +68,12 @@ spec-from l most ss g f n names a s w b = record {
   within = within-part l n a w;
   well_named = record {
     names = subst (λ xs. All (λ (s : Signal). IsTrue (is_name s.name)) xs) (sym b.signals_are) (named-all ss s.named);
-    indices = subst (λ xs. All (λ (t : TransName). t.index < 1000000000) xs) (sym b.trans_are) (small-all (length ss) g.trans s.trans_there) };
+    indices = subst (λ xs. All (λ (t : TransName). t.index < 1000000000) xs) (sym b.trans_are) (small-all (length ss) g.trans s.trans_there);
+  };
   each_named = ap length b.names_are ∙ length-map g.places (place_name g.trans) ∙ sym (length-map g.places f) ∙ sym (ap length b.tokens_are);
   in_range = subst (λ xs. All (IsPlaceNameOf (length n.trans)) xs) (sym b.names_are)
-    (subst (λ ts. All (IsPlaceNameOf (length ts)) (map (place_name g.trans) g.places)) (sym b.trans_are) (names-there g.trans g.places s.places_there)) }
+      (subst (λ ts. All (IsPlaceNameOf (length ts)) (map (place_name g.trans) g.places)) (sym b.trans_are) (names-there g.trans g.places s.places_there));
+}
 
 at-most : (n m : ℕ) → nat_lt n m ≡ false → m ≤ n
 at-most n m h = elim (cases_lt n m) [ inl a ↦ absurd (true≢false (sym (lt-ltb n m a) ∙ h)) | inr b ↦ b ]
@@ -100,5 +102,6 @@ ready-from l ss g b ts ps qs t p q limits trans tokens none a s h =
       done_there = tt;
       there = s.pairs_there;
       weighed = ap (λ (x : Limits). list_all (is_weighed x.weight) g.pairs) limits ∙ s.weighed;
-      fresh = s.pairs_differ } in
+      fresh = s.pairs_differ;
+    } in
     subst (λ x. AreReady b x ps qs) (sym t) (subst (λ x. AreReady b g.trans x qs) (sym p) (subst (λ x. AreReady b g.trans g.places x) (sym q) base))

@@ -1,5 +1,5 @@
 -- Where a marking ends.
-use Rattle.std.proofs.Common.{◌≡◌, ◌+◌, ◌-◌, ◌<◌, ◌≤◌, ℕ, zero, suc, List, [], ◌∷◌, Bool, true, false, cond, not, ◌||◌, ◌==◌, nat_lt, inl, inr, take, drop, get_or, length, map, refl, sym, ap, subst, ◌∙◌, arith}
+use Rattle.std.proofs.Common.{◌≡◌, ◌+◌, ◌-◌, ◌<◌, ℕ, zero, suc, List, [], ◌∷◌, Bool, true, false, cond, not, ◌||◌, ◌==◌, nat_lt, inl, inr, take, drop, get_or, length, refl, sym, ap, ◌∙◌, arith}
 use Rattle.std.proofs.lemmas.Bool.{cases_Bool, cases_lt, lt-ltb, le-ltb, true≢false, or_right}
 use Rattle.std.proofs.lemmas.Slice.Eq.{bytes_eq-Decides}
 use Rattle.std.specs.Prelude.{codes}
@@ -35,33 +35,38 @@ entries-first n m words e = ap (entries_after zero) (words-take n words ∙ ap (
 pub before-take : (ws : Row) → before_close ws ≡ take (close_length ws) ws
 before-take [] = refl
 before-take (w ∷ ws) = elim (cases_Bool (is_closing w)) [
-    inl k ↦ ap (λ b. cond b [] (w ∷ before_close ws)) k ∙ sym (ap (λ b. take (cond b 0 (suc (close_length ws))) (w ∷ ws)) k)
-  | inr k ↦ ap (λ b. cond b [] (w ∷ before_close ws)) k ∙ ap (λ us. w ∷ us) (before-take ws) ∙ sym (ap (λ b. take (cond b 0 (suc (close_length ws))) (w ∷ ws)) k) ]
+  | inl k ↦ ap (λ b. cond b [] (w ∷ before_close ws)) k ∙ sym (ap (λ b. take (cond b 0 (suc (close_length ws))) (w ∷ ws)) k)
+  | inr k ↦ ap (λ b. cond b [] (w ∷ before_close ws)) k ∙ ap (λ us. w ∷ us) (before-take ws) ∙ sym (ap (λ b. take (cond b 0 (suc (close_length ws))) (w ∷ ws)) k)
+]
 
 -- how many words there are after it
 after-length : (ws : Row) → close_length ws + length (after_close ws) + cond (list_any is_closing ws) 1 0 ≡ length ws
 after-length [] = refl
 after-length (w ∷ ws) = elim (cases_Bool (is_closing w)) [
-    inl k ↦ (λ j. cond (k j) 0 (suc (close_length ws)) + length (cond (k j) ws (after_close ws)) + cond (k j || list_any is_closing ws) 1 0) ∙ (let e : 0 + length ws + 1 ≡ suc (length ws) = omega arith in e)
-  | inr k ↦ (λ j. cond (k j) 0 (suc (close_length ws)) + length (cond (k j) ws (after_close ws)) + cond (k j || list_any is_closing ws) 1 0) ∙ (let e : suc (close_length ws) + length (after_close ws) + cond (list_any is_closing ws) 1 0 ≡ suc (length ws) = omega (arith, after-length ws) in e) ]
+  | inl k ↦ (λ j. cond (k j) 0 (suc (close_length ws)) + length (cond (k j) ws (after_close ws)) + cond (k j || list_any is_closing ws) 1 0) ∙ (let e : 0 + length ws + 1 ≡ suc (length ws) = omega arith in e)
+  | inr k ↦ (λ j. cond (k j) 0 (suc (close_length ws)) + length (cond (k j) ws (after_close ws)) + cond (k j || list_any is_closing ws) 1 0) ∙ (let e : suc (close_length ws) + length (after_close ws) + cond (list_any is_closing ws) 1 0 ≡ suc (length ws) = omega (arith, after-length ws) in e)
+]
 
 after-none : (ws : Row) → list_any is_closing ws ≡ false → length (after_close ws) ≡ 0
 after-none [] h = refl
 after-none (w ∷ ws) h = elim (cases_Bool (is_closing w)) [
-    inl k ↦ absurd (true≢false (sym (ap (λ b. b || list_any is_closing ws) k) ∙ h))
-  | inr k ↦ ap (λ b. length (cond b ws (after_close ws))) k ∙ after-none ws (sym (ap (λ b. b || list_any is_closing ws) k) ∙ h) ]
+  | inl k ↦ absurd (true≢false (sym (ap (λ b. b || list_any is_closing ws) k) ∙ h))
+  | inr k ↦ ap (λ b. length (cond b ws (after_close ws))) k ∙ after-none ws (sym (ap (λ b. b || list_any is_closing ws) k) ∙ h)
+]
 
 -- whether there is one
 pub closed-from : (ws : Row) (n : ℕ) → n ≡ length ws → list_any is_closing ws ≡ nat_lt (close_length ws) n
 closed-from ws n e = elim (cases_Bool (list_any is_closing ws)) [
-    inl k ↦ k ∙ sym (lt-ltb (close_length ws) n (omega (arith, after-length ws, ap {B = ℕ} (λ b. cond b 1 0) k, e)))
-  | inr k ↦ k ∙ sym (le-ltb (close_length ws) n (omega (arith, after-length ws, ap {B = ℕ} (λ b. cond b 1 0) k, after-none ws k, e))) ]
+  | inl k ↦ k ∙ sym (lt-ltb (close_length ws) n (omega (arith, after-length ws, ap {B = ℕ} (λ b. cond b 1 0) k, e)))
+  | inr k ↦ k ∙ sym (le-ltb (close_length ws) n (omega (arith, after-length ws, ap {B = ℕ} (λ b. cond b 1 0) k, after-none ws k, e)))
+]
 
 -- whether words follow it
 pub followed-from : (ws : Row) (n : ℕ) → n ≡ length ws → nat_lt 0 (length (after_close ws)) ≡ nat_lt 1 (n - close_length ws)
 followed-from ws n e = elim (cases_Bool (list_any is_closing ws)) [
-    inl k ↦ by_length (omega (arith, after-length ws, ap {B = ℕ} (λ b. cond b 1 0) k, e))
-  | inr k ↦ le-ltb 0 (length (after_close ws)) (omega (arith, after-none ws k)) ∙ sym (le-ltb 1 (n - close_length ws) (omega (arith, after-length ws, ap {B = ℕ} (λ b. cond b 1 0) k, after-none ws k, e))) ]
+  | inl k ↦ by_length (omega (arith, after-length ws, ap {B = ℕ} (λ b. cond b 1 0) k, e))
+  | inr k ↦ le-ltb 0 (length (after_close ws)) (omega (arith, after-none ws k)) ∙ sym (le-ltb 1 (n - close_length ws) (omega (arith, after-length ws, ap {B = ℕ} (λ b. cond b 1 0) k, after-none ws k, e)))
+]
   where
     by_length : n - close_length ws ≡ length (after_close ws) + 1 → nat_lt 0 (length (after_close ws)) ≡ nat_lt 1 (n - close_length ws)
     by_length h = by_count (length (after_close ws)) ∙ ap (nat_lt 1) (sym h)

@@ -1,5 +1,5 @@
 -- The entries of a marking's words, one after the other.
-use Rattle.std.proofs.Common.{◌≡◌, ◌+◌, ◌-◌, ◌<◌, ◌≤◌, ℕ, zero, suc, List, [], ◌∷◌, ◌++◌, drop, take, length, get_or, map, refl, sym, ap, ◌∙◌, arith, Some, None, take_all, length-drop, append_assoc, length-append}
+use Rattle.std.proofs.Common.{◌≡◌, ◌+◌, ◌-◌, ◌<◌, ◌≤◌, ℕ, zero, suc, List, [], ◌∷◌, ◌++◌, drop, take, length, get_or, refl, sym, ap, ◌∙◌, arith, None, take_all, length-drop, append_assoc}
 use Rattle.std.specs.Borrow.{Bor}
 use Rattle.std.proofs.lemmas.List.{map-append, length-map}
 use Rattle.stg_net.specs.declared.signal.Signal.{Signal}
@@ -44,7 +44,7 @@ pub entries-preserved : (old new : List ReadEntry) (e : ReadEntry) (rest : List 
     → shown_entries new ++ entries_after zero (shown_words (take (length rest - n) (drop n rest))) ≡ shown_entries old ++ entries_after zero (shown_words rest)
 entries-preserved old new e rest n pushed shows least count some =
     let left : shown_words (take (length rest - n) (drop n rest)) ≡ drop n (shown_words rest) =
-        ap shown_words (take_all (length rest - n) (drop n rest) (omega (arith, length-drop n rest))) ∙ words-drop n rest in
+    ap shown_words (take_all (length rest - n) (drop n rest) (omega (arith, length-drop n rest))) ∙ words-drop n rest in
     let p : length (shown_entry e).place ≡ length e.place.now = length-map e.place.now (λ (w : Bor (List ℕ)). w.now) in
     let t : length (shown_entry e).tokens ≡ length e.tokens.now = length-map e.tokens.now (λ (w : Bor (List ℕ)). w.now) in
     let front = cut-front rest (shown_entry e) n some shows (omega (arith, least, p)) (omega (arith, count, p, t)) in

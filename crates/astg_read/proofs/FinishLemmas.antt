@@ -1,15 +1,14 @@
 -- The specification of what the lines say.
-use Rattle.std.proofs.Common.{◌≡◌, ℕ, ◌≤◌, List, map, true, false, Some, None, Option, refl, sym, ap, subst, ◌∙◌, arith}
+use Rattle.std.proofs.Common.{◌≡◌, ℕ, ◌≤◌, map, Some, None, Option, ◌∙◌, arith}
 use Rattle.stg_net.specs.declared.limits.Limits.{Limits}
 use Rattle.stg_net.specs.Spec.{SpecLists}
 use Rattle.astg_read.specs.Built.{IsBuilt, known_by}
 use Rattle.astg_read.specs.Graphs.{PlaceAt}
-use Rattle.astg_read.specs.Header.{Declared, without_dummies}
-use Rattle.astg_read.specs.Known.{Known, GraphLists}
+use Rattle.astg_read.specs.Header.{without_dummies}
+use Rattle.astg_read.specs.Known.{Known}
 use Rattle.astg_read.specs.Markings.{entries_of}
 use Rattle.astg_read.specs.Reading.{IsSpecOf, meaning_of, tokens_by}
 use Rattle.astg_read.specs.Rows.{Row}
-use Rattle.astg_read.specs.Sound.{IsSound}
 use Rattle.astg_read.specs.Taking.{IsKept, IsGood}
 use Rattle.astg_read.specs.declared.reader.Reader.{Reader}
 use Rattle.astg_read.specs.Taking.{known_of}
@@ -26,7 +25,8 @@ kept-by l r k = record {
   few = k.few;
   counts = k.counts;
   good = tt;
-  sound = record { named = k.sound.named; names_differ = k.sound.names_differ; trans_differ = k.sound.trans_differ; trans_there = k.sound.trans_there; places_there = k.sound.places_there; weighed = k.sound.weighed; pairs_there = k.sound.pairs_there; pairs_differ = k.sound.pairs_differ } }
+  sound = record { named = k.sound.named; names_differ = k.sound.names_differ; trans_differ = k.sound.trans_differ; trans_there = k.sound.trans_there; places_there = k.sound.places_there; weighed = k.sound.weighed; pairs_there = k.sound.pairs_there; pairs_differ = k.sound.pairs_differ };
+}
 
 -- the tokens of a good marking are within the limit
 pub tokens-good : (most : ℕ) (k : Known) (p : PlaceAt) (m : Option Row) → k.marking ≡ m → IsGood most k → tokens_by k.declared m p ≤ most
@@ -45,4 +45,5 @@ spec-of r f s same b = record {
   tokens = b.tokens_are ∙ (λ j. map (λ p. same p j) r.graph.places);
   arcs = b.arcs_are;
   is_net = b.is_net;
-  place_names = b.names_are }
+  place_names = b.names_are;
+}

@@ -1,5 +1,5 @@
 -- The graph as the keys and entries of its maps.
-use Rattle.std.proofs.Common.{◌≡◌, ℕ, ◌+◌, List, [], ◌∷◌, ◌++◌, Bool, true, false, ◌&&◌, not, ◌<◌, nat_lt, inl, inr, unwrap_or, min, map, flat_map, length, position, None, Some, Option, refl, sym, ap, ◌∙◌, arith, append-nil, length-append}
+use Rattle.std.proofs.Common.{◌≡◌, ℕ, ◌+◌, List, [], ◌∷◌, ◌++◌, true, false, ◌<◌, nat_lt, inl, inr, unwrap_or, min, map, length, position, None, Some, Option, refl, sym, ap, ◌∙◌, arith, append-nil, length-append}
 use Rattle.std.proofs.lemmas.List.Concat.{flat_map-append}
 use Rattle.std.proofs.lemmas.Bool.{cases_lt, lt-ltb, le-ltb}
 use Rattle.std.specs.List.{list_any}
@@ -61,7 +61,7 @@ pub arc_total-more : (ps : List Pair) (p : Pair) (old count new : ℕ) → old �
     → new ≡ min (length (arcs [] [] (ps ++ p ∷ []))) 18446744073709551615
 arc_total-more ps p old count new h k s =
     let e : length (arcs [] [] (ps ++ p ∷ [])) ≡ length (arcs [] [] ps) + length (arcs_of [] [] p) =
-        ap length (flat_map-append (arcs_of [] []) ps (p ∷ []) ∙ ap (λ xs. arcs [] [] ps ++ xs) (append-nil (arcs_of [] [] p))) ∙ length-append (arcs [] [] ps) (arcs_of [] [] p) in
+    ap length (flat_map-append (arcs_of [] []) ps (p ∷ []) ∙ ap (λ xs. arcs [] [] ps ++ xs) (append-nil (arcs_of [] [] p))) ∙ length-append (arcs [] [] ps) (arcs_of [] [] p) in
     omega (arith, e, h, k, s)
 
 between-length : (ts : List TransName) (ps : List PlaceAt) (w : ℕ) (m n : Node) → length (arcs_between [] [] w m n) ≡ length (arcs_between ts ps w m n)
@@ -81,5 +81,6 @@ arcs-length ts ps (p ∷ pairs) =
 -- too many arcs are told by the count
 pub arcs-over : (ts : List TransName) (ps : List PlaceAt) (pairs : List Pair) (most : ℕ) → most < 4294967296 → nat_lt most (min (length (arcs [] [] pairs)) 18446744073709551615) ≡ nat_lt most (length (arcs ts ps pairs))
 arcs-over ts ps pairs most small = elim (cases_lt most (length (arcs ts ps pairs))) [
-    inl h ↦ lt-ltb most (min (length (arcs [] [] pairs)) 18446744073709551615) (omega (arith, h, small, arcs-length ts ps pairs)) ∙ sym (lt-ltb most (length (arcs ts ps pairs)) h)
-  | inr h ↦ le-ltb most (min (length (arcs [] [] pairs)) 18446744073709551615) (omega (arith, h, arcs-length ts ps pairs)) ∙ sym (le-ltb most (length (arcs ts ps pairs)) h) ]
+  | inl h ↦ lt-ltb most (min (length (arcs [] [] pairs)) 18446744073709551615) (omega (arith, h, small, arcs-length ts ps pairs)) ∙ sym (lt-ltb most (length (arcs ts ps pairs)) h)
+  | inr h ↦ le-ltb most (min (length (arcs [] [] pairs)) 18446744073709551615) (omega (arith, h, arcs-length ts ps pairs)) ∙ sym (le-ltb most (length (arcs ts ps pairs)) h)
+]

@@ -1,14 +1,13 @@
 -- What a line of the graph adds is there.
-use Rattle.std.proofs.Common.{◌≡◌, ℕ, zero, List, [], ◌∷◌, ◌++◌, Bool, true, false, cond, not, ◌||◌, ◌&&◌, nat_eq, length, filter_map, flat_map, inl, inr, refl, sym, ap, subst, ◌∙◌, Some, None, Option, option_map, is_some, append-nil, arith}
-use Rattle.std.proofs.lemmas.Bool.{cases_Bool, or_parts, and_parts, and_from, true≢false, false≢true, ne_eqb}
+use Rattle.std.proofs.Common.{◌≡◌, ℕ, zero, List, [], ◌∷◌, ◌++◌, Bool, true, false, ◌||◌, ◌&&◌, nat_eq, length, filter_map, refl, sym, ap, subst, ◌∙◌, Some, None, Option, option_map, is_some, append-nil, arith}
+use Rattle.std.proofs.lemmas.Bool.{and_parts, and_from, false≢true, ne_eqb}
 use Rattle.std.proofs.lemmas.Slice.Eq.{bytes_eq-Decides}
 use Rattle.std.specs.List.{list_any, list_all, cons_option}
 use Rattle.std.specs.Option.{option_map_or}
-use Rattle.std.specs.Str.{bytes_eq}
 use Rattle.stg_net.specs.declared.trans.TransName.{TransName}
 use Rattle.astg_read.specs.Rows.{Word, Row}
 use Rattle.astg_read.specs.Header.{Declared}
-use Rattle.astg_read.specs.Lists.{firsts, added}
+use Rattle.astg_read.specs.Lists.{firsts}
 use Rattle.astg_read.specs.Nodes.{Node, Trans, Place, same_trans, trans_of, trans_or_place, node_of}
 use Rattle.astg_read.specs.Targets.{Target, targets_after, is_weight, weight_of, is_good_group}
 use Rattle.astg_read.specs.Graphs.{Pair, PlaceAt, Named, Between, same_place, trans_at, place_at, place_between, pair_of, pairs_on, trans_on, places_on}
@@ -38,7 +37,8 @@ pair-more : (ts xs : List TransName) (ps ys : List PlaceAt) (p : Pair) → IsPai
 pair-more ts xs ps ys p h = record {
   source_there = node-more ts xs ps ys p.source h.source_there;
   target_there = node-more ts xs ps ys p.target h.target_there;
-  between_there = between-more ps ys p.source p.target h.between_there }
+  between_there = between-more ps ys p.source p.target h.between_there;
+}
 
 pub pairs-more : (ts xs : List TransName) (ps ys : List PlaceAt) (pairs : List Pair) → ArePairsIn ts ps pairs → ArePairsIn (firsts same_trans ts xs) (firsts same_place ps ys) pairs
 pairs-more ts xs ps ys [] h = tt
@@ -74,13 +74,14 @@ targets-there n (p ∷ pairs) ts ps h s =
     let here : IsPairIn ts1 ps2 p = record {
       source_there = subst (IsNodeIn ts1 ps2) (sym h.0) (node-more ts1 [] ps1 (place_between p.source p.target) n (node-more ts (trans_at p.target) ps (place_at p.target) n s));
       target_there = node-more ts1 [] ps1 (place_between p.source p.target) p.target (node-added ts ps p.target);
-      between_there = between-added ps1 p.source p.target } in
+      between_there = between-added ps1 p.source p.target;
+    } in
     let source : IsNodeIn ts1 ps2 n = node-more ts1 [] ps1 (place_between p.source p.target) n (node-more ts (trans_at p.target) ps (place_at p.target) n s) in
     let rest = targets-there n pairs ts1 ps2 h.1 source in
     let t : firsts same_trans ts (trans_in (p ∷ pairs)) ≡ firsts same_trans ts1 (trans_in pairs) = firsts-append same_trans ts (trans_at p.target) (trans_in pairs) in
     let q : firsts same_place ps (places_in (p ∷ pairs)) ≡ firsts same_place ps2 (places_in pairs) =
-        firsts-append same_place ps (place_at p.target ++ place_between p.source p.target) (places_in pairs)
-        ∙ ap (λ x. firsts same_place x (places_in pairs)) (firsts-append same_place ps (place_at p.target) (place_between p.source p.target)) in
+    firsts-append same_place ps (place_at p.target ++ place_between p.source p.target) (places_in pairs)
+    ∙ ap (λ x. firsts same_place x (places_in pairs)) (firsts-append same_place ps (place_at p.target) (place_between p.source p.target)) in
     let P : List TransName → List PlaceAt → Type 0 = λ a b. ArePairsIn a b (p ∷ pairs) in
     subst (λ a. P a (firsts same_place ps (places_in (p ∷ pairs)))) (sym t) (subst (λ b. P (firsts same_trans ts1 (trans_in pairs)) b) (sym q) (pair-more ts1 (trans_in pairs) ps2 (places_in pairs) p here, rest))
 
@@ -164,7 +165,7 @@ targets-good d w (t ∷ ts) = cons-good d (pair_of d w t) (filter_map (pair_of d
 pub line-good : (d : Declared) (w : Word) (ws : Row) → list_all (is_trans_in (length d.signals)) (trans_on d (w ∷ ws)) ≡ true
 line-good d w ws =
     all-append same_trans (is_trans_in (length d.signals)) (trans_at (node_of d w) ++ []) (trans_in (pairs_on d (w ∷ ws)))
-      (ap (list_all (is_trans_in (length d.signals))) (append-nil (trans_at (node_of d w))) ∙ node-good d w) (targets-good d w (targets_after zero ws))
+    (ap (list_all (is_trans_in (length d.signals))) (append-nil (trans_at (node_of d w))) ∙ node-good d w) (targets-good d w (targets_after zero ws))
 
 -- the transitions of places stay there
 place-wider : (ts xs : List TransName) (p : PlaceAt) → is_place_in ts p ≡ true → is_place_in (firsts same_trans ts xs) p ≡ true
@@ -194,10 +195,10 @@ pairs-places : (ts : List TransName) (ps : List PlaceAt) (pairs : List Pair) →
 pairs-places ts ps [] h = refl
 pairs-places ts ps (p ∷ pairs) h =
     all-append same_place (is_place_in ts) (place_at p.target ++ place_between p.source p.target) (places_in pairs)
-      (all-append same_place (is_place_in ts) (place_at p.target) (place_between p.source p.target) (node-places ts p.target) (between-places ts ps p.source p.target h.0.source_there h.0.target_there))
-      (pairs-places ts ps pairs h.1)
+    (all-append same_place (is_place_in ts) (place_at p.target) (place_between p.source p.target) (node-places ts p.target) (between-places ts ps p.source p.target h.0.source_there h.0.target_there))
+    (pairs-places ts ps pairs h.1)
 
 pub line-places : (d : Declared) (w : Word) (ws : Row) (ts : List TransName) (ps : List PlaceAt) → ArePairsIn ts ps (pairs_on d (w ∷ ws)) → list_all (is_place_in ts) (places_on d (w ∷ ws)) ≡ true
 line-places d w ws ts ps h =
     all-append same_place (is_place_in ts) (place_at (node_of d w) ++ []) (places_in (pairs_on d (w ∷ ws)))
-      (ap (list_all (is_place_in ts)) (append-nil (place_at (node_of d w))) ∙ node-places ts (node_of d w)) (pairs-places ts ps (pairs_on d (w ∷ ws)) h)
+    (ap (list_all (is_place_in ts)) (append-nil (place_at (node_of d w))) ∙ node-places ts (node_of d w)) (pairs-places ts ps (pairs_on d (w ∷ ws)) h)

@@ -1,7 +1,7 @@
 -- The transitions for which words stand have signals that are there and small indices.
-use Rattle.std.proofs.Common.{◌≡◌, ℕ, zero, suc, ◌+◌, ◌-◌, ◌*◌, ◌<◌, ◌≤◌, List, [], ◌∷◌, Bool, true, false, cond, ◌&&◌, ◌==◌, nat_le, nat_lt, length, inl, inr, refl, sym, ap, subst, ◌∙◌, Some, None, Option, option_map, option_and_then, arith, drop}
-use Rattle.std.proofs.lemmas.Bool.{cases_Bool, and_parts, and_from, leb-true, lt-ltb, true≢false}
-use Rattle.std.specs.List.{list_all, position_or_len}
+use Rattle.std.proofs.Common.{◌≡◌, ℕ, ◌+◌, ◌-◌, ◌*◌, ◌<◌, ◌≤◌, List, [], ◌∷◌, Bool, true, false, cond, ◌&&◌, ◌==◌, nat_le, nat_lt, length, inl, inr, refl, sym, ap, subst, Some, None, Option, option_map, option_and_then, arith, drop}
+use Rattle.std.proofs.lemmas.Bool.{cases_Bool, and_parts, and_from, leb-true, lt-ltb}
+use Rattle.std.specs.List.{list_all}
 use Rattle.stg_net.specs.declared.signal.Signal.{Signal}
 use Rattle.stg_net.specs.declared.trans.Edge.{Edge}
 use Rattle.stg_net.specs.declared.trans.Edge.TheVariants.{Toggle}
@@ -49,18 +49,20 @@ inside P (Some n) = P n
 
 pub number-small : (w : Word) → inside (λ n. n < 1000000000) (number w)
 number-small w = elim (cases_Bool (is_number w)) [
-    inl h ↦
+  | inl h ↦
       let q = and_parts (nat_le 1 (length w) && nat_le (length w) 9) (list_all is_digit w) h in
       let r = and_parts (nat_le 1 (length w)) (nat_le (length w) 9) q.0 in
       let small : value_after 0 w < 1000000000 = omega (arith, value-bound w 0 1 q.1 (omega arith), scaled-most w (leb-true (length w) 9 r.1)) in
       subst (inside (λ n. n < 1000000000)) (sym (ap (λ b. cond b (Some (value_after 0 w)) None) h)) small
-  | inr h ↦ subst (inside (λ n. n < 1000000000)) (sym (ap (λ b. cond b (Some (value_after 0 w)) None) h)) tt ]
+  | inr h ↦ subst (inside (λ n. n < 1000000000)) (sym (ap (λ b. cond b (Some (value_after 0 w)) None) h)) tt
+]
 
 index-small : (w : Word) → inside (λ n. n < 1000000000) (index_of w)
 index-small [] = omega arith
 index-small (c ∷ cs) = elim (cases_Bool (c == 47)) [
-    inl h ↦ subst (inside (λ n. n < 1000000000)) (sym (ap (λ b. cond b (number cs) None) h)) (number-small cs)
-  | inr h ↦ subst (inside (λ n. n < 1000000000)) (sym (ap (λ b. cond b (number cs) None) h)) tt ]
+  | inl h ↦ subst (inside (λ n. n < 1000000000)) (sym (ap (λ b. cond b (number cs) None) h)) (number-small cs)
+  | inr h ↦ subst (inside (λ n. n < 1000000000)) (sym (ap (λ b. cond b (number cs) None) h)) tt
+]
 
 -- a transition word with a small index
 abbrev IsSmall : Option WordOfTrans → Type 0
@@ -93,8 +95,9 @@ read-small w = by_name (is_name (name_in w)) refl
 
 trans_word-small : (d : Declared) (w : Word) → IsSmall (trans_word d w)
 trans_word-small d w = elim (cases_Bool (is_dummy d (name_in w))) [
-    inl h ↦ subst IsSmall (sym (ap (λ b. cond b (dummy_word w) (read_trans_word w)) h)) (with_index (name_in w) Toggle (index_of (drop (length (name_in w)) w)) (index-small (drop (length (name_in w)) w)))
-  | inr h ↦ subst IsSmall (sym (ap (λ b. cond b (dummy_word w) (read_trans_word w)) h)) (read-small w) ]
+  | inl h ↦ subst IsSmall (sym (ap (λ b. cond b (dummy_word w) (read_trans_word w)) h)) (with_index (name_in w) Toggle (index_of (drop (length (name_in w)) w)) (index-small (drop (length (name_in w)) w)))
+  | inr h ↦ subst IsSmall (sym (ap (λ b. cond b (dummy_word w) (read_trans_word w)) h)) (read-small w)
+]
 
 -- a transition that is there
 abbrev pub IsGoodTrans : ℕ → Option TransName → Type 0

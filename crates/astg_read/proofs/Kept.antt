@@ -1,24 +1,21 @@
 -- What each line that is taken keeps.
-use Rattle.std.proofs.Common.{◌≡◌, ℕ, ◌≤◌, ◌<◌, List, [], ◌∷◌, ◌++◌, Bool, true, false, cond, not, drop, unwrap_or, ◌||◌, ◌&&◌, length, nat_lt, refl, sym, ap, subst, ◌∙◌, inl, inr, Some, None, Option, is_some, MatchOption, append-nil, arith}
+use Rattle.std.proofs.Common.{◌≡◌, ℕ, ◌≤◌, List, [], ◌∷◌, ◌++◌, Bool, true, false, cond, not, drop, unwrap_or, ◌||◌, ◌&&◌, length, nat_lt, refl, sym, ap, subst, ◌∙◌, inl, inr, Some, None, Option, is_some, MatchOption, append-nil, arith}
 use Rattle.std.proofs.lemmas.Bool.{cases_Bool, cases_lt, lt-ltb, le-ltb, or_parts, true≢false, false≢true}
 use Rattle.std.proofs.lemmas.Slice.Eq.{bytes_eq-Decides}
 use Rattle.std.specs.Prelude.{codes, ⊤}
-use Rattle.std.specs.List.{list_any}
 use Rattle.stg_net.specs.declared.limits.Limits.{Limits}
 use Rattle.stg_net.specs.declared.signal.Signal.{Signal}
 use Rattle.astg_read.specs.declared.rule.Rule.{Rule}
 use Rattle.astg_read.specs.declared.rule.Rule.TheVariants.{BadMarking, TooMany, HasDummy, UnknownDirective, OutOfOrder}
-use Rattle.astg_read.specs.Rows.{Word, Row, begins, begins_with_dot, after_first, is_header, is_directive, is_graph_row}
-use Rattle.astg_read.specs.Header.{Declared}
+use Rattle.astg_read.specs.Rows.{Word, Row, begins, after_first, is_header, is_directive, is_graph_row}
 use Rattle.astg_read.specs.Markings.{is_bad_marking, is_unfinished}
 use Rattle.astg_read.specs.Known.{Known, arcs_in}
-use Rattle.astg_read.specs.Rules.{first_broken, line_rules, has_too_many, has_dummy, breaks_directive, breaks_order, breaks_marking, marking_with, ends_text}
-use Rattle.astg_read.specs.Steps.{after_row, after_graph, in_graph, with_header, with_names, with_graph_row}
-use Rattle.astg_read.specs.GraphRules.{or_later}
+use Rattle.astg_read.specs.Rules.{line_rules, has_too_many, breaks_directive, breaks_order, breaks_marking, marking_with, ends_text}
+use Rattle.astg_read.specs.Steps.{after_row, after_graph, with_names, with_graph_row}
 use Rattle.astg_read.specs.Sound.{IsSound}
 use Rattle.astg_read.specs.Taking.{line_fault, verdict, taken, nothing, IsGood, IsKept}
 use Rattle.astg_read.proofs.Verdicts.{past, stop, verdict-inside}
-use Rattle.astg_read.proofs.Takings.{verdict-said, verdict-dummies, too-taken, ends-outside, ends-inside, broken-head, end-row, dummy-row, or_later-none, after-begun, after-before}
+use Rattle.astg_read.proofs.Takings.{verdict-said, verdict-dummies, too-taken, ends-outside, ends-inside, broken-head, dummy-row, or_later-none, after-begun, after-before}
 use Rattle.astg_read.proofs.Sounds.{sound-after, sound-marking}
 
 -- a marking with words has the graph before it, and is good
@@ -48,16 +45,16 @@ module _ (most : ℕ) (k : Known) (row : Row) (none : line_fault most k row ≡ 
 closed-row : (most : ℕ) (k : Known) (words : Row) (w : Word) (ws : Row) → k.has_graph ≡ true → k.marking ≡ Some words → line_fault most k (w ∷ ws) ≡ None → begins (codes ".end") (w ∷ ws) ≡ false → ⊥
 closed-row most k words w ws h m none e =
     let o : ((is_header (w ∷ ws) || begins (codes ".graph") (w ∷ ws)) || (is_graph_row (w ∷ ws) || begins (codes ".marking") (w ∷ ws))) ≡ false =
-        sym (ap (λ b. (b && k.has_graph) || ((is_graph_row (w ∷ ws) || begins (codes ".marking") (w ∷ ws)) && (not k.has_graph || is_some k.marking))) refl
-          ∙ (λ j. ((is_header (w ∷ ws) || begins (codes ".graph") (w ∷ ws)) && h j) || ((is_graph_row (w ∷ ws) || begins (codes ".marking") (w ∷ ws)) && (not (h j) || is_some (m j))))
-          ∙ (λ j. and_true (is_header (w ∷ ws) || begins (codes ".graph") (w ∷ ws)) j || and_true (is_graph_row (w ∷ ws) || begins (codes ".marking") (w ∷ ws)) j))
-        ∙ order-false most k (w ∷ ws) none in
+    sym (ap (λ b. (b && k.has_graph) || ((is_graph_row (w ∷ ws) || begins (codes ".marking") (w ∷ ws)) && (not k.has_graph || is_some k.marking))) refl
+    ∙ (λ j. ((is_header (w ∷ ws) || begins (codes ".graph") (w ∷ ws)) && h j) || ((is_graph_row (w ∷ ws) || begins (codes ".marking") (w ∷ ws)) && (not (h j) || is_some (m j))))
+    ∙ (λ j. and_true (is_header (w ∷ ws) || begins (codes ".graph") (w ∷ ws)) j || and_true (is_graph_row (w ∷ ws) || begins (codes ".marking") (w ∷ ws)) j))
+    ∙ order-false most k (w ∷ ws) none in
     let p = or_parts (is_header (w ∷ ws) || begins (codes ".graph") (w ∷ ws)) (is_graph_row (w ∷ ws) || begins (codes ".marking") (w ∷ ws)) o in
     let q = or_parts (is_graph_row (w ∷ ws)) (begins (codes ".marking") (w ∷ ws)) p.1 in
     let d : is_directive (w ∷ ws) ≡ false =
-        sym (and_true (is_directive (w ∷ ws)))
-        ∙ sym (λ j. is_directive (w ∷ ws) && not ((p.0 j || q.1 j) || e j))
-        ∙ directive-false most k (w ∷ ws) none in
+    sym (and_true (is_directive (w ∷ ws)))
+    ∙ sym (λ j. is_directive (w ∷ ws) && not ((p.0 j || q.1 j) || e j))
+    ∙ directive-false most k (w ∷ ws) none in
     true≢false (sym (ap not d) ∙ q.0)
   where
     and_true : (b : Bool) → (b && true) ≡ b
@@ -79,17 +76,18 @@ kept-inside limits k words row e inside kept v =
     let g = good-some limits.weight k words e kept.good in
     let bad = test-false (breaks_marking limits.weight k row) BadMarking (sym (verdict-inside limits k row inside) ∙ v) in
     subst P (sym (taken-else k row (ends-inside k row inside) ∙ after-begun k (Some words) row g.0 e))
-      (record { few = kept.few; counts = kept.counts; good = (g.0, sym (ap (is_bad_marking limits.weight k.declared k.places) (marking-with k (Some words) row e)) ∙ bad); sound = sound-marking limits.weight k (Some (words ++ row)) kept.sound })
+    (record { few = kept.few; counts = kept.counts; good = (g.0, sym (ap (is_bad_marking limits.weight k.declared k.places) (marking-with k (Some words) row e)) ∙ bad); sound = sound-marking limits.weight k (Some (words ++ row)) kept.sound })
 
 -- the counts after a line of another kind
 few-after : (limits : Limits) (k : Known) (row : Row) → has_too_many limits (taken k row) ≡ false → length (taken k row).declared.signals ≤ limits.signals
 few-after limits k row h = elim (cases_lt limits.signals (length (taken k row).declared.signals)) [
-    inl p ↦ absurd (true≢false (sym (lt-ltb limits.signals (length (taken k row).declared.signals) p) ∙ first))
-  | inr q ↦ q ]
+  | inl p ↦ absurd (true≢false (sym (lt-ltb limits.signals (length (taken k row).declared.signals) p) ∙ first))
+  | inr q ↦ q
+]
   where
     first : nat_lt limits.signals (length (taken k row).declared.signals) ≡ false
     first = (or_parts (nat_lt limits.signals (length (taken k row).declared.signals)) (nat_lt limits.trans (length (taken k row).trans))
-      (or_parts (nat_lt limits.signals (length (taken k row).declared.signals) || nat_lt limits.trans (length (taken k row).trans)) (nat_lt limits.places (length (taken k row).places))
+        (or_parts (nat_lt limits.signals (length (taken k row).declared.signals) || nat_lt limits.trans (length (taken k row).trans)) (nat_lt limits.places (length (taken k row).places))
         (or_parts (nat_lt limits.signals (length (taken k row).declared.signals) || nat_lt limits.trans (length (taken k row).trans) || nat_lt limits.places (length (taken k row).places)) (nat_lt limits.arcs (length (arcs_in (taken k row)))) h).0).0).0
 
 -- .marking where it may stand
@@ -114,14 +112,16 @@ good-after most k row None e g none n false h =
 good-after most k row None e g none n true h =
     let P : Known → Type 0 = λ q. IsGood most q in
     subst P (sym (after-begun k None row h e)) (elim (cases_Bool (begins (codes ".marking") row)) [
-      inl b ↦ subst P (sym (stop (begins (codes ".marking") row) (record k { marking = Some (after_first row) }) (cond (is_graph_row row) (with_graph_row k row) k) b)) (h, bad b)
-    | inr b ↦ subst P (sym (past (begins (codes ".marking") row) (record k { marking = Some (after_first row) }) (cond (is_graph_row row) (with_graph_row k row) k) b)) (by_kind (is_graph_row row)) ])
+      | inl b ↦ subst P (sym (stop (begins (codes ".marking") row) (record k { marking = Some (after_first row) }) (cond (is_graph_row row) (with_graph_row k row) k) b)) (h, bad b)
+      | inr b ↦ subst P (sym (past (begins (codes ".marking") row) (record k { marking = Some (after_first row) }) (cond (is_graph_row row) (with_graph_row k row) k) b)) (by_kind (is_graph_row row))
+    ])
   where
     bad : begins (codes ".marking") row ≡ true → is_bad_marking most k.declared k.places (after_first row) ≡ false
     bad b =
         let f : cond (breaks_marking most k (codes ".marking" ∷ after_first row)) (Some BadMarking) None ≡ None =
-            sym (begun-marking most k (after_first row) h e) ∙ ap (line_fault most k) (sym (marking-row row b)) ∙ none in
+        sym (begun-marking most k (after_first row) h e) ∙ ap (line_fault most k) (sym (marking-row row b)) ∙ none in
         sym (ap (is_bad_marking most k.declared k.places) (marking-with k None (codes ".marking" ∷ after_first row) e)) ∙ test-false (breaks_marking most k (codes ".marking" ∷ after_first row)) BadMarking f
+
     by_kind : (b : Bool) → IsGood most (cond b (with_graph_row k row) k)
     by_kind true = subst (λ o. MatchOption o ⊤ (λ ws. (k.has_graph ≡ true) × (is_bad_marking most k.declared (with_graph_row k row).places ws ≡ false))) (sym e) tt
     by_kind false = subst (λ o. MatchOption o ⊤ (λ ws. (k.has_graph ≡ true) × (is_bad_marking most k.declared k.places ws ≡ false))) (sym e) tt
@@ -131,28 +131,32 @@ kept-outside : (limits : Limits) (k : Known) (row : Row) → is_unfinished k.mar
 kept-outside limits k row outside kept v =
     let P : Known → Type 0 = λ q. IsKept limits q in
     elim (cases_Bool (ends_text k row)) [
-      inl h ↦ subst P (sym (taken-end k row h)) kept
-    | inr h ↦ elim (cases_Bool (begins (codes ".dummy") row)) [
-        inl d ↦
-          let row_is = dummy-row row d in
-          let w : verdict limits k (codes ".dummy" ∷ after_first row) ≡ None = ap (verdict limits k) (sym row_is) ∙ v in
-          let parts = or_later-none (line_fault limits.weight k (codes ".dummy" ∷ after_first row)) (cond (nat_lt 0 (length (after_first row))) (Some HasDummy) None) (sym (verdict-dummies limits k (after_first row) outside) ∙ w) in
-          let empty : after_first row ≡ [] = no_words (after_first row) (test-false (nat_lt 0 (length (after_first row))) HasDummy parts.1) in
-          let whole : row ≡ codes ".dummy" ∷ [] = row_is ∙ ap (λ ws. codes ".dummy" ∷ ws) empty in
-          let good = good-after limits.weight k (codes ".dummy" ∷ after_first row) k.marking refl kept.good parts.0 refl k.has_graph refl in
-          subst P (sym (taken-else k row h)) (record { few = few-dummy row whole; counts = counts-dummy row whole; good = subst (λ r. IsGood limits.weight (after_row k r)) (sym row_is) good; sound = subst (λ r. IsSound limits.weight (after_row k r)) (sym row_is) (sound-after limits.weight k (codes ".dummy" ∷ after_first row) parts.0 kept.sound) })
-      | inr d ↦
-          let parts = or_later-none (line_fault limits.weight k row) (cond (has_too_many limits (after_row k row)) (Some TooMany) None) (sym (verdict-said limits k row outside d) ∙ v) in
-          let few : has_too_many limits (taken k row) ≡ false = sym (too-taken limits k row) ∙ test-false (has_too_many limits (after_row k row)) TooMany parts.1 in
-          (record {
-            few = few-after limits k row few;
-            counts = few;
-            good = subst (λ q. IsGood limits.weight q) (sym (taken-else k row h)) (good-after limits.weight k row k.marking refl kept.good parts.0 (sym (ends-outside k row outside) ∙ h) k.has_graph refl);
-            sound = subst (λ q. IsSound limits.weight q) (sym (taken-else k row h)) (sound-after limits.weight k row parts.0 kept.sound) }) ] ]
+      | inl h ↦ subst P (sym (taken-end k row h)) kept
+      | inr h ↦ elim (cases_Bool (begins (codes ".dummy") row)) [
+        | inl d ↦
+            let row_is = dummy-row row d in
+            let w : verdict limits k (codes ".dummy" ∷ after_first row) ≡ None = ap (verdict limits k) (sym row_is) ∙ v in
+            let parts = or_later-none (line_fault limits.weight k (codes ".dummy" ∷ after_first row)) (cond (nat_lt 0 (length (after_first row))) (Some HasDummy) None) (sym (verdict-dummies limits k (after_first row) outside) ∙ w) in
+            let empty : after_first row ≡ [] = no_words (after_first row) (test-false (nat_lt 0 (length (after_first row))) HasDummy parts.1) in
+            let whole : row ≡ codes ".dummy" ∷ [] = row_is ∙ ap (λ ws. codes ".dummy" ∷ ws) empty in
+            let good = good-after limits.weight k (codes ".dummy" ∷ after_first row) k.marking refl kept.good parts.0 refl k.has_graph refl in
+            subst P (sym (taken-else k row h)) (record { few = few-dummy row whole; counts = counts-dummy row whole; good = subst (λ r. IsGood limits.weight (after_row k r)) (sym row_is) good; sound = subst (λ r. IsSound limits.weight (after_row k r)) (sym row_is) (sound-after limits.weight k (codes ".dummy" ∷ after_first row) parts.0 kept.sound) })
+        | inr d ↦
+            let parts = or_later-none (line_fault limits.weight k row) (cond (has_too_many limits (after_row k row)) (Some TooMany) None) (sym (verdict-said limits k row outside d) ∙ v) in
+            let few : has_too_many limits (taken k row) ≡ false = sym (too-taken limits k row) ∙ test-false (has_too_many limits (after_row k row)) TooMany parts.1 in
+            (record {
+              few = few-after limits k row few;
+              counts = few;
+              good = subst (λ q. IsGood limits.weight q) (sym (taken-else k row h)) (good-after limits.weight k row k.marking refl kept.good parts.0 (sym (ends-outside k row outside) ∙ h) k.has_graph refl);
+              sound = subst (λ q. IsSound limits.weight q) (sym (taken-else k row h)) (sound-after limits.weight k row parts.0 kept.sound);
+            })
+      ]
+    ]
   where
     no_words : (ws : Row) → nat_lt 0 (length ws) ≡ false → ws ≡ []
     no_words [] e = refl
     no_words (w ∷ ws) e = absurd (true≢false (sym (lt-ltb 0 (length (w ∷ ws)) (omega arith)) ∙ e))
+
     few-empty : (b : Bool) → k.has_graph ≡ b → length (after_row k (codes ".dummy" ∷ [])).declared.signals ≤ limits.signals
     few-empty false e = subst (λ q. length q.declared.signals ≤ limits.signals) (sym (after-before k (codes ".dummy" ∷ []) e)) (subst (λ (ss : List Signal). length ss ≤ limits.signals) (sym (append-nil k.declared.signals)) kept.few)
     few-empty true e = subst (λ q. length q.declared.signals ≤ limits.signals) (sym (after-begun k k.marking (codes ".dummy" ∷ []) e refl)) (by_marking k.marking)
@@ -160,6 +164,7 @@ kept-outside limits k row outside kept v =
         by_marking : (m : Option Row) → length (after_graph k m (codes ".dummy" ∷ [])).declared.signals ≤ limits.signals
         by_marking None = kept.few
         by_marking (Some ws) = kept.few
+
     counts-empty : (b : Bool) → k.has_graph ≡ b → has_too_many limits (after_row k (codes ".dummy" ∷ [])) ≡ false
     counts-empty false e = ap (has_too_many limits) (after-before k (codes ".dummy" ∷ []) e)
         ∙ ap (λ (ss : List Signal). has_too_many limits (record k { declared = record { signals = ss; dummies = k.declared.dummies } })) (append-nil k.declared.signals) ∙ kept.counts
@@ -168,8 +173,10 @@ kept-outside limits k row outside kept v =
         by_marking : (m : Option Row) → has_too_many limits (after_graph k m (codes ".dummy" ∷ [])) ≡ false
         by_marking None = kept.counts
         by_marking (Some ws) = kept.counts
+
     counts-dummy : (r : Row) → r ≡ codes ".dummy" ∷ [] → has_too_many limits (after_row k r) ≡ false
     counts-dummy r e = ap (λ x. has_too_many limits (after_row k x)) e ∙ counts-empty k.has_graph refl
+
     few-dummy : (r : Row) → r ≡ codes ".dummy" ∷ [] → length (after_row k r).declared.signals ≤ limits.signals
     few-dummy r e = subst (λ x. length (after_row k x).declared.signals ≤ limits.signals) (sym e) (few-empty k.has_graph refl)
 
@@ -180,8 +187,9 @@ kept-after limits k row kept v = by_marking k.marking refl
     by_marking : (m : Option Row) → k.marking ≡ m → IsKept limits (taken k row)
     by_marking None e = kept-outside limits k row (ap is_unfinished e) kept v
     by_marking (Some words) e = elim (cases_Bool (is_unfinished k.marking)) [
-        inl h ↦ kept-inside limits k words row e h kept v
-      | inr h ↦ kept-outside limits k row h kept v ]
+      | inl h ↦ kept-inside limits k words row e h kept v
+      | inr h ↦ kept-outside limits k row h kept v
+    ]
 
 -- an empty line inside a marking breaks no rule
 pub verdict-nothing : (limits : Limits) (k : Known) → is_unfinished k.marking ≡ true → IsKept limits k → verdict limits k [] ≡ None
@@ -192,7 +200,7 @@ verdict-nothing limits k inside kept = by_marking k.marking refl
     by_marking (Some words) e =
         verdict-inside limits k [] inside
         ∙ past (breaks_marking limits.weight k []) (Some BadMarking) None
-          (ap (is_bad_marking limits.weight k.declared k.places) (marking-with k (Some words) [] e ∙ append-nil words) ∙ (good-some limits.weight k words e kept.good).1)
+        (ap (is_bad_marking limits.weight k.declared k.places) (marking-with k (Some words) [] e ∙ append-nil words) ∙ (good-some limits.weight k words e kept.good).1)
 
 -- before the first line
 pub kept-nothing : (limits : Limits) → IsKept limits nothing
@@ -200,7 +208,8 @@ kept-nothing limits = record {
   few = omega arith;
   counts = (λ j. none limits.signals j || none limits.trans j || none limits.places j || none limits.arcs j);
   good = tt;
-  sound = record { named = refl; names_differ = refl; trans_differ = refl; trans_there = refl; places_there = refl; weighed = refl; pairs_there = tt; pairs_differ = refl } }
+  sound = record { named = refl; names_differ = refl; trans_differ = refl; trans_there = refl; places_there = refl; weighed = refl; pairs_there = tt; pairs_differ = refl };
+}
   where
     none : (n : ℕ) → nat_lt n 0 ≡ false
     none n = le-ltb n 0 (omega arith)

@@ -1,5 +1,5 @@
 -- The entries of a map and the keys of a set, seen as a list of other things.
-use Rattle.std.proofs.Common.{◌≡◌, ℕ, ◌+◌, List, [], ◌∷◌, ◌++◌, Bool, true, false, ◌||◌, cond, not, nat_lt, length, map, position, None, Some, refl, sym, ap, ◌∙◌, inl, inr}
+use Rattle.std.proofs.Common.{◌≡◌, ◌+◌, List, [], ◌∷◌, ◌++◌, Bool, true, false, ◌||◌, cond, not, nat_lt, length, map, position, None, Some, refl, sym, ap, ◌∙◌, inl, inr}
 use Rattle.std.specs.List.{list_any, position_or_len}
 use Rattle.std.specs.Map.{keys_of}
 use Rattle.std.proofs.lemmas.List.{map-append, length-map}
@@ -47,8 +47,9 @@ entries-new eq seen m k v none =
 pub keys-added : {K X : Type 0} (eq : K → K → Bool) (same : X → X → Bool) (seen : K → X) (k : K) → ((y : K) → eq k y ≡ same (seen k) (seen y))
     → (ks : List K) → map seen (insert_key eq ks k) ≡ added same (map seen ks) (seen k)
 keys-added eq same seen k agree ks = elim (cases_Bool (list_any (eq k) ks)) [
-    inl h ↦ ap (λ b. map seen (cond b ks (ks ++ k ∷ []))) h ∙ sym (ap (λ b. cond b (map seen ks) (map seen ks ++ seen k ∷ [])) (sym (any-seen (eq k) (same (seen k)) seen agree ks) ∙ h))
-  | inr h ↦ ap (λ b. map seen (cond b ks (ks ++ k ∷ []))) h ∙ map-append seen ks (k ∷ []) ∙ sym (ap (λ b. cond b (map seen ks) (map seen ks ++ seen k ∷ [])) (sym (any-seen (eq k) (same (seen k)) seen agree ks) ∙ h)) ]
+  | inl h ↦ ap (λ b. map seen (cond b ks (ks ++ k ∷ []))) h ∙ sym (ap (λ b. cond b (map seen ks) (map seen ks ++ seen k ∷ [])) (sym (any-seen (eq k) (same (seen k)) seen agree ks) ∙ h))
+  | inr h ↦ ap (λ b. map seen (cond b ks (ks ++ k ∷ []))) h ∙ map-append seen ks (k ∷ []) ∙ sym (ap (λ b. cond b (map seen ks) (map seen ks ++ seen k ∷ [])) (sym (any-seen (eq k) (same (seen k)) seen agree ks) ∙ h))
+]
 
 -- one that is found stays where it is, and one that isn't there goes last
 pub added-found : {X : Type 0} (same : X → X → Bool) (xs : List X) (x : X) → list_any (same x) xs ≡ true → xs ≡ added same xs x

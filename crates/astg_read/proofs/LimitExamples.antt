@@ -1,5 +1,5 @@
 -- Worked examples of limits and of what a text stands for.
-use Rattle.std.specs.Prelude.{◌≡◌, ℕ, List, [], ◌∷◌, ◌++◌, codes, Some, None, Option, refl, true, false, Result, Ok, Err}
+use Rattle.std.specs.Prelude.{◌≡◌, ℕ, [], ◌∷◌, codes, refl, true, false, Result, Ok, Err}
 use Rattle.stg_net.specs.declared.limits.Limits.{Limits}
 use Rattle.stg_net.specs.declared.signal.Kind.TheVariants.{Input, Output}
 use Rattle.stg_net.specs.declared.trans.Edge.TheVariants.{Rise, Fall}

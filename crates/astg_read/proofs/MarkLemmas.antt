@@ -1,12 +1,12 @@
 -- The tokens that entries give.
-use Rattle.std.proofs.Common.{◌≡◌, ℕ, ◌≤◌, List, [], ◌∷◌, Bool, true, false, cond, not, ◌||◌, ◌&&◌, nat_lt, Option, Some, None, option_map, filter_map, inl, inr, refl, sym, ap, subst, ◌∙◌, arith, unwrap_or}
-use Rattle.std.proofs.lemmas.Bool.{cases_Bool, cases_lt, or_parts, lt-ltb, true≢false}
+use Rattle.std.proofs.Common.{◌≡◌, ℕ, ◌≤◌, List, [], ◌∷◌, Bool, true, false, cond, not, ◌||◌, ◌&&◌, nat_lt, Option, Some, None, option_map, inl, inr, refl, sym, ap, ◌∙◌, arith}
+use Rattle.std.proofs.lemmas.Bool.{cases_lt, or_parts, lt-ltb, true≢false}
 use Rattle.std.specs.List.{cons_option}
 use Rattle.std.specs.Option.{option_map_or}
 use Rattle.astg_read.specs.Header.{Declared}
 use Rattle.astg_read.specs.Graphs.{PlaceAt, same_place}
 use Rattle.astg_read.specs.Markings.{Entry, named_place, tokens_of, tokens_in, is_bad_entry, has_bad_entry, with_named, starts_entry, is_whole, is_whole_place, names_one}
-use Rattle.astg_read.specs.Marks.{Mark, mark_of, marks_of, tokens_at}
+use Rattle.astg_read.specs.Marks.{Mark, marks_of, tokens_at}
 
 at-cons : (o : Option PlaceAt) (n : ℕ) (ms : List Mark) (p : PlaceAt) (later : ℕ) → tokens_at ms p ≡ later
     → tokens_at (cons_option (option_map (λ q. record { place = q; tokens = n }) o) ms) p ≡ cond (option_map_or (same_place p) o false) n later
@@ -28,6 +28,7 @@ tokens-within most d places closed named (e ∷ es) p h =
   where
     not-over : nat_lt most (tokens_of e.tokens) ≡ false → tokens_of e.tokens ≤ most
     not-over k = elim (cases_lt most (tokens_of e.tokens)) [ inl a ↦ absurd (true≢false (sym (lt-ltb most (tokens_of e.tokens) a) ∙ k)) | inr b ↦ b ]
+
     by_test : (b : Bool) → tokens_of e.tokens ≤ most → tokens_in d es p ≤ most → cond b (tokens_of e.tokens) (tokens_in d es p) ≤ most
     by_test true x y = x
     by_test false x y = y

@@ -1,17 +1,17 @@
 -- A line of the graph, by the tests of its words and pairs.
-use Rattle.std.proofs.Common.{◌≡◌, ℕ, zero, List, [], ◌∷◌, ◌++◌, Bool, true, false, cond, not, ◌||◌, ◌&&◌, refl, sym, ap, ◌∙◌, Some, None, Option, is_some, option_map, ◌==◌, append-nil, filter_map}
+use Rattle.std.proofs.Common.{◌≡◌, ℕ, zero, List, [], ◌∷◌, ◌++◌, true, false, cond, not, ◌||◌, ◌&&◌, refl, sym, ap, ◌∙◌, Some, None, Option, is_some, append-nil, filter_map}
 use Rattle.std.proofs.lemmas.Bool.{true≢false}
 use Rattle.std.specs.Prelude.{codes}
 use Rattle.astg_read.specs.declared.rule.Rule.{Rule}
 use Rattle.astg_read.specs.declared.rule.Rule.TheVariants.{OutOfOrder}
 use Rattle.astg_read.specs.Lists.{firsts}
-use Rattle.astg_read.specs.Rows.{Word, Row, begins, begins_with_dot, is_graph_row}
+use Rattle.astg_read.specs.Rows.{Word, Row, begins, begins_with_dot}
 use Rattle.astg_read.specs.Nodes.{Node, node_of, same_trans}
 use Rattle.astg_read.specs.Targets.{Target, targets_after, words_in}
-use Rattle.astg_read.specs.Graphs.{Pair, pair_of, pairs_on, same_place, trans_at, place_at, trans_on, places_on}
+use Rattle.astg_read.specs.Graphs.{Pair, pair_of, pairs_on, same_place, trans_at, place_at}
 use Rattle.astg_read.specs.Known.{Known, GraphLists}
 use Rattle.astg_read.specs.Markings.{is_unfinished}
-use Rattle.astg_read.specs.GraphRules.{name_fault, pair_fault, or_later, graph_fault}
+use Rattle.astg_read.specs.GraphRules.{name_fault, pair_fault, or_later}
 use Rattle.astg_read.specs.Steps.{with_graph_row, in_graph, after_graph, with_header, after_row, with_node, with_targets, with_pairs, trans_in, places_in}
 use Rattle.astg_read.specs.Taking.{line_fault, taken}
 use Rattle.astg_read.proofs.StepLemmas.{firsts-append}

@@ -1,27 +1,29 @@
 -- Numbers in order of first appearance stay as more appear.
-use Rattle.std.proofs.Common.{drop, get_or, ◌≡◌, ◌+◌, ◌<◌, ◌≤◌, ℕ, zero, suc, List, [], ◌∷◌, ◌++◌, Bool, true, false, cond, not, ◌&&◌, ◌||◌, inl, inr, length, map, flat_map, nat_lt, nat_eq, refl, sym, ap, ◌∙◌, arith, Some, None, Option, length-append, append_assoc, append-nil, All, position, subst, eq-eqb, unwrap_or}
+use Rattle.std.proofs.Common.{drop, get_or, ◌≡◌, ◌+◌, ◌<◌, ◌≤◌, ℕ, zero, suc, List, [], ◌∷◌, ◌++◌, Bool, true, false, cond, not, ◌&&◌, ◌||◌, inl, inr, length, nat_eq, refl, sym, ap, ◌∙◌, arith, Some, None, Option, length-append, append_assoc, append-nil, position, subst, eq-eqb, unwrap_or}
 use Rattle.stg_net.specs.declared.trans.Edge.{Edge}
 use Rattle.stg_net.specs.declared.trans.Edge.TheVariants.{Rise, Fall, Toggle}
 use Rattle.std.proofs.lemmas.Bool.{cases_Bool, lt-ltb, false≢true, or_left, or_right, or_parts, and_from, le-ltb}
 use Rattle.std.specs.List.{list_any, position_or_len}
 use Rattle.stg_net.specs.declared.trans.TransName.{TransName}
 use Rattle.astg_read.specs.Lists.{added, firsts}
-use Rattle.astg_read.specs.Nodes.{Node, Trans, Place, same_edge, same_trans}
-use Rattle.astg_read.specs.Graphs.{PlaceAt, Named, Between, Pair, same_place, trans_number, place_number, arcs_between, arcs, arcs_of}
+use Rattle.astg_read.specs.Nodes.{same_edge, same_trans}
+use Rattle.astg_read.specs.Graphs.{PlaceAt, same_place, trans_number, place_number}
 
 -- one that is there is found before the end
 pub found_within : {X : Type 0} (f : X → Bool) (xs : List X) → list_any f xs ≡ true → position_or_len f xs < length xs
 found_within f [] h = absurd (false≢true h)
 found_within f (x ∷ xs) h = elim (cases_Bool (f x)) [
-    inl k ↦ omega (arith, ap (λ b. cond (not b) (1 + position_or_len f xs) 0) k)
-  | inr k ↦ omega (arith, ap (λ b. cond (not b) (1 + position_or_len f xs) 0) k, found_within f xs (sym (ap (λ b. b || list_any f xs) k) ∙ h)) ]
+  | inl k ↦ omega (arith, ap (λ b. cond (not b) (1 + position_or_len f xs) 0) k)
+  | inr k ↦ omega (arith, ap (λ b. cond (not b) (1 + position_or_len f xs) 0) k, found_within f xs (sym (ap (λ b. b || list_any f xs) k) ∙ h))
+]
 
 -- and stays where it is
 pub found_same : {X : Type 0} (f : X → Bool) (xs ys : List X) → list_any f xs ≡ true → position_or_len f (xs ++ ys) ≡ position_or_len f xs
 found_same f [] ys h = absurd (false≢true h)
 found_same f (x ∷ xs) ys h = elim (cases_Bool (f x)) [
-    inl k ↦ ap (λ b. cond (not b) (1 + position_or_len f (xs ++ ys)) 0) k ∙ sym (ap (λ b. cond (not b) (1 + position_or_len f xs) 0) k)
-  | inr k ↦ ap (λ n. cond (not (f x)) (1 + n) 0) (found_same f xs ys (sym (ap (λ b. b || list_any f xs) k) ∙ h)) ]
+  | inl k ↦ ap (λ b. cond (not b) (1 + position_or_len f (xs ++ ys)) 0) k ∙ sym (ap (λ b. cond (not b) (1 + position_or_len f xs) 0) k)
+  | inr k ↦ ap (λ n. cond (not (f x)) (1 + n) 0) (found_same f xs ys (sym (ap (λ b. b || list_any f xs) k) ∙ h))
+]
 
 pub position_there : {X : Type 0} (f : X → Bool) (xs : List X) → list_any f xs ≡ true → position f xs ≡ Some (position_or_len f xs)
 position_there f xs h = ap (λ b. cond b (Some (position_or_len f xs)) None) (lt-ltb (position_or_len f xs) (length xs) (found_within f xs h))
@@ -29,8 +31,9 @@ position_there f xs h = ap (λ b. cond b (Some (position_or_len f xs)) None) (lt
 pub any_more : {X : Type 0} (f : X → Bool) (xs ys : List X) → list_any f xs ≡ true → list_any f (xs ++ ys) ≡ true
 any_more f [] ys h = absurd (false≢true h)
 any_more f (x ∷ xs) ys h = elim (cases_Bool (f x)) [
-    inl k ↦ or_left (f x) (list_any f (xs ++ ys)) k
-  | inr k ↦ or_right (f x) (list_any f (xs ++ ys)) (any_more f xs ys (sym (ap (λ b. b || list_any f xs) k) ∙ h)) ]
+  | inl k ↦ or_left (f x) (list_any f (xs ++ ys)) k
+  | inr k ↦ or_right (f x) (list_any f (xs ++ ys)) (any_more f xs ys (sym (ap (λ b. b || list_any f xs) k) ∙ h))
+]
 
 pub position-more : {X : Type 0} (f : X → Bool) (xs ys : List X) → list_any f xs ≡ true → position f (xs ++ ys) ≡ position f xs
 position-more f xs ys h = position_there f (xs ++ ys) (any_more f xs ys h) ∙ ap Some (found_same f xs ys h) ∙ sym (position_there f xs h)
@@ -50,16 +53,18 @@ is_nothing (Some x) = ⊥
 
 pub any-found : {X : Type 0} (f : X → Bool) (xs : List X) (n : ℕ) → position f xs ≡ Some n → list_any f xs ≡ true
 any-found f xs n h = elim (cases_Bool (list_any f xs)) [
-    inl k ↦ k
-  | inr k ↦ absurd (subst is_nothing (sym (position-none f xs k) ∙ h) tt) ]
+  | inl k ↦ k
+  | inr k ↦ absurd (subst is_nothing (sym (position-none f xs k) ∙ h) tt)
+]
 
 some_none : (n : ℕ) → Some n ≡ None → ⊥
 some_none n e = subst is_nothing (sym e) tt
 
 pub any-missing : {X : Type 0} (f : X → Bool) (xs : List X) → position f xs ≡ None → list_any f xs ≡ false
 any-missing f xs h = elim (cases_Bool (list_any f xs)) [
-    inl k ↦ absurd (some_none (position_or_len f xs) (sym (position_there f xs k) ∙ h))
-  | inr k ↦ k ]
+  | inl k ↦ absurd (some_none (position_or_len f xs) (sym (position_there f xs k) ∙ h))
+  | inr k ↦ k
+]
 
 last_found : {X : Type 0} (f : X → Bool) (xs : List X) (x : X) → list_any f xs ≡ false → f x ≡ true → position_or_len f (xs ++ x ∷ []) ≡ length xs
 last_found f [] x h s = ap (λ b. cond (not b) 1 0) s
@@ -101,8 +106,9 @@ trans_number-more trans more t h = ap (λ o. unwrap_or o 0) (position-more (same
 -- what was added comes last
 added-more : {X : Type 0} (same : X → X → Bool) (seen : List X) (x : X) → added same seen x ≡ seen ++ cond (list_any (same x) seen) [] (x ∷ [])
 added-more same seen x = elim (cases_Bool (list_any (same x) seen)) [
-    inl k ↦ ap (λ b. cond b seen (seen ++ x ∷ [])) k ∙ sym (append-nil seen) ∙ sym (ap (λ b. seen ++ cond b [] (x ∷ [])) k)
-  | inr k ↦ ap (λ b. cond b seen (seen ++ x ∷ [])) k ∙ sym (ap (λ b. seen ++ cond b [] (x ∷ [])) k) ]
+  | inl k ↦ ap (λ b. cond b seen (seen ++ x ∷ [])) k ∙ sym (append-nil seen) ∙ sym (ap (λ b. seen ++ cond b [] (x ∷ [])) k)
+  | inr k ↦ ap (λ b. cond b seen (seen ++ x ∷ [])) k ∙ sym (ap (λ b. seen ++ cond b [] (x ∷ [])) k)
+]
 
 abbrev newer : {X : Type 0} → (X → X → Bool) → List X → List X → List X
 newer same seen [] = []

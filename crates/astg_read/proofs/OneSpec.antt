@@ -1,11 +1,11 @@
 -- A text stands for one specification: its arcs in the order of a net are one list.
-use Rattle.std.proofs.Common.{◌≡◌, ◌<◌, ℕ, zero, suc, List, [], ◌∷◌, true, false, inl, inr, ◌⊎◌, arith, get_or, length, refl, sym, ◌∙◌, ap, subst, AllPairs}
+use Rattle.std.proofs.Common.{◌≡◌, ◌<◌, ℕ, zero, suc, List, [], ◌∷◌, inl, inr, ◌⊎◌, arith, get_or, length, refl, sym, ◌∙◌, subst, AllPairs}
 use Rattle.std.specs.List.{Contains}
 use Rattle.std.specs.List.Sorted.{IsPermutation}
 use Rattle.std.proofs.lemmas.Bool.{true≢false}
 use Rattle.std.proofs.lemmas.List.Sorted.{Contains-permutation, IsPermutation-sym, IsPermutation-trans}
 use Rattle.stg_net.specs.declared.arc.NetArc.{NetArc}
-use Rattle.stg_net.specs.Net.{NetLists, IsBefore, IsFalseFirst}
+use Rattle.stg_net.specs.Net.{IsBefore}
 use Rattle.stg_net.specs.Spec.{SpecLists}
 use Rattle.astg_read.specs.Reading.{Meaning, IsSpecOf}
 

@@ -1,13 +1,11 @@
 -- Worked examples of the definition.
-use Rattle.std.specs.Prelude.{◌≡◌, ℕ, List, [], ◌∷◌, ◌++◌, codes, Some, None, Option, refl, ⊤}
-use Rattle.std.specs.Prelude.{true, false}
+use Rattle.std.specs.Prelude.{◌≡◌, ℕ, [], ◌∷◌, ◌++◌, codes, refl, ⊤}
+use Rattle.std.specs.Prelude.{true}
 use Rattle.stg_net.specs.declared.limits.Limits.{Limits}
 use Rattle.astg_read.specs.declared.rule.Rule.{Rule}
 use Rattle.astg_read.specs.declared.rule.Rule.TheVariants as rules
 use Rattle.std.specs.Prelude.{Result, Ok, Err}
 use Rattle.astg_read.specs.Reading.{Fault, Meaning, reading}
-use Rattle.astg_lex.specs.Lines.{lines_of}
-use Rattle.astg_lex.specs.Words.{words_of}
 
 abbrev spec : Limits
 spec = record { bytes = 1048576; signals = 250; trans = 1000; places = 2000; arcs = 20000; weight = 1000 }

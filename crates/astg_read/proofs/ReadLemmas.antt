@@ -1,19 +1,17 @@
 -- What a text stands for, where some of its lines have been taken.
-use Rattle.std.proofs.Common.{◌≡◌, ◌≢◌, ◌+◌, ◌<◌, ◌≤◌, ℕ, List, [], ◌∷◌, ◌++◌, Bool, true, false, cond, not, ◌⊎◌, inl, inr, map, length, refl, sym, ap, subst, ◌∙◌, None, Some, Option, Result, Ok, Err, arith, nat_lt, ◌&&◌, drop, length-append}
-use Rattle.std.proofs.lemmas.Bool.{cases_Bool, le-ltb}
-use Rattle.std.proofs.lemmas.List.{map-append}
-use Rattle.std.specs.Prelude.{codes}
+use Rattle.std.proofs.Common.{◌≡◌, ◌≢◌, ◌+◌, ◌≤◌, ℕ, List, [], ◌∷◌, ◌++◌, Bool, true, false, cond, map, length, refl, sym, ap, subst, ◌∙◌, None, Some, Result, Ok, Err, ◌&&◌, drop, length-append}
+use Rattle.std.proofs.lemmas.Bool.{le-ltb}
 use Rattle.stg_net.specs.declared.limits.Limits.{Limits}
 use Rattle.astg_lex.specs.Lines.{lines_of, line_ends, line_length, code_of, has_bad_byte}
-use Rattle.astg_lex.specs.Words.{WordAt, words_at, words_of, words_with, is_blank, is_joining, begins_joining, longer}
-use Rattle.astg_lex.specs.Lexing.{Lexing, Advances, left, lines_left, this_line, shown, shown_word}
+use Rattle.astg_lex.specs.Words.{WordAt, words_at, words_of, is_blank, is_joining, begins_joining, longer}
+use Rattle.astg_lex.specs.Lexing.{Lexing, Advances, left, lines_left, this_line, shown}
 use Rattle.astg_lex.specs.declared.words.Word.{Word}
 use Rattle.astg_lex.proofs.LineLemmas.{lines_of-some}
 use Rattle.astg_read.specs.declared.rule.Rule.{Rule}
 use Rattle.astg_read.specs.declared.rule.Rule.TheVariants.{BadByte, TooLong}
 use Rattle.astg_read.specs.Rows.{Row}
 use Rattle.astg_read.specs.Known.{Known, known}
-use Rattle.astg_read.specs.Rules.{Line, rules, first_broken, broken_by, seen_line, ends_text}
+use Rattle.astg_read.specs.Rules.{rules, first_broken, seen_line, ends_text}
 use Rattle.astg_read.specs.Reading.{Meaning, Fault, meaning_of, or_fault, missing, reading_after, reading}
 use Rattle.astg_read.specs.Shown.{texts}
 use Rattle.astg_read.specs.Steps.{after_row}
@@ -58,7 +56,7 @@ texts-with : (a x : ℕ) (bs : List ℕ) → texts_at a (x ∷ bs) ≡ texts_wit
 texts-with a x bs =
     map-cond (is_blank x) (words_at (a + 1) bs) (cond (is_joining x && begins_joining bs) (longer a x (words_at (a + 1) bs)) (record { text = x ∷ []; start = a; end = a + 1 } ∷ words_at (a + 1) bs))
     ∙ ap (λ ws. cond (is_blank x) (texts_at (a + 1) bs) ws) (map-cond (is_joining x && begins_joining bs) (longer a x (words_at (a + 1) bs)) (record { text = x ∷ []; start = a; end = a + 1 } ∷ words_at (a + 1) bs)
-      ∙ ap (λ ws. cond (is_joining x && begins_joining bs) ws ((x ∷ []) ∷ texts_at (a + 1) bs)) (longer-texts a x (words_at (a + 1) bs)))
+    ∙ ap (λ ws. cond (is_joining x && begins_joining bs) ws ((x ∷ []) ∷ texts_at (a + 1) bs)) (longer-texts a x (words_at (a + 1) bs)))
 
 -- where in the text the words stand doesn't change them
 texts_at-anywhere : (a b : ℕ) (bs : List ℕ) → texts_at a bs ≡ texts_at b bs
@@ -102,7 +100,8 @@ module _ (limits : Limits) (text : List ℕ) (old new : Lexing) (number : ℕ) (
     rows = r.rows ++ row ∷ [];
     known_is = ap (λ q. after_row q row) r.known_is ∙ sym (known-after r.rows row);
     number_is = a.next_number ∙ ap (λ n. n + 1) r.number_is ∙ sym (length-append r.rows (row ∷ []));
-    same = sym (next ∙ ap (λ v. or_fault (length r.rows + 1) v goes_on) e ∙ ap (λ b. cond b (Ok (meaning_of (known r.rows))) (reading_after false limits last (r.rows ++ row ∷ []) (map seen_line (lines_left new)))) (ap (λ q. ends_text q row) (sym r.known_is) ∙ s)) }
+    same = sym (next ∙ ap (λ v. or_fault (length r.rows + 1) v goes_on) e ∙ ap (λ b. cond b (Ok (meaning_of (known r.rows))) (reading_after false limits last (r.rows ++ row ∷ []) (map seen_line (lines_left new)))) (ap (λ q. ends_text q row) (sym r.known_is) ∙ s));
+  }
 
 -- a line with a byte that may not stand
 pub step-bad : (limits : Limits) (text : List ℕ) (l : Lexing) (k : Known) → Reached limits text l k → lines_left l ≢ [] → has_bad_byte (this_line l) ≡ true

@@ -1,10 +1,9 @@
 -- The arcs of one more pair.
-use Rattle.std.proofs.Common.{◌≡◌, ℕ, List, [], ◌∷◌, ◌++◌, map, flat_map, Option, refl, sym, ap, subst, ◌∙◌, append_assoc, append-nil}
+use Rattle.std.proofs.Common.{◌≡◌, ℕ, List, [], ◌∷◌, ◌++◌, map, Option, sym, ap, subst, ◌∙◌, append_assoc, append-nil}
 use Rattle.std.proofs.lemmas.Bool.{or_parts, and_parts}
 use Rattle.std.proofs.lemmas.List.Concat.{flat_map-append}
 use Rattle.std.specs.List.{list_any, list_all}
 use Rattle.stg_net.specs.declared.trans.TransName.{TransName}
-use Rattle.stg_net.specs.declared.arc.NetArc.{NetArc}
 use Rattle.stg_net.specs.Building.{Building}
 use Rattle.astg_read.specs.declared.graph.Ends.{Ends}
 use Rattle.astg_read.specs.Built.{AreReady, with_all_arcs}
@@ -21,13 +20,18 @@ module _ (b : Building) (ts : List TransName) (ps : List PlaceAt) (p : Pair) (re
       let w = and_parts (is_weighed b.limits.weight p) (list_all (is_weighed b.limits.weight) rest) r.weighed in
       let f = or_parts (list_any (same_pair p) r.done) (stands_again same_pair (r.done ++ p ∷ []) rest) r.fresh in
       record {
-        trans_are = r.trans_are; places_are = r.places_are; trans_fit = r.trans_fit; places_fit = r.places_fit; least = r.least;
+        trans_are = r.trans_are;
+        places_are = r.places_are;
+        trans_fit = r.trans_fit;
+        places_fit = r.places_fit;
+        least = r.least;
         done = r.done ++ p ∷ [];
         arcs_are = ap (λ xs. xs ++ arcs_of ts ps p) r.arcs_are ∙ sym (flat_map-append (arcs_of ts ps) r.done (p ∷ []) ∙ ap (λ xs. arcs ts ps r.done ++ xs) (append-nil (arcs_of ts ps p)));
         done_there = pairs-append ts ps r.done (p ∷ []) r.done_there (r.there.0, tt);
         there = r.there.1;
         weighed = w.1;
-        fresh = f.1 }
+        fresh = f.1;
+      }
 
   arcs-after : with_all_arcs (with_all_arcs b (arcs_of ts ps p)) (arcs ts ps rest) ≡ with_all_arcs b (arcs ts ps (p ∷ rest))
   arcs-after = ap (λ xs. record b { lists = record (b.lists) { arcs = xs } }) (append_assoc b.lists.arcs (arcs_of ts ps p) (arcs ts ps rest))
@@ -37,7 +41,7 @@ pub next-ready : (b new : Building) (ts : List TransName) (ps : List PlaceAt) (e
     → new ≡ with_all_arcs b (arcs_of ts ps (shown_weighed (e, w))) → AreReady b ts ps (map shown_weighed all) → AreReady new ts ps (map shown_weighed rest)
 next-ready b new ts ps e w rest all same grown r =
     subst (λ (x : Building). AreReady x ts ps (map shown_weighed rest)) (sym grown)
-      (ready-after b ts ps (shown_weighed (e, w)) (map shown_weighed rest) (subst (λ es. AreReady b ts ps (map shown_weighed es)) same r))
+    (ready-after b ts ps (shown_weighed (e, w)) (map shown_weighed rest) (subst (λ es. AreReady b ts ps (map shown_weighed es)) same r))
 
 pub next-arcs : (b new : Building) (ts : List TransName) (ps : List PlaceAt) (e : Ends) (w : Option ℕ) (rest all : List (Ends × Option ℕ)) → all ≡ (e, w) ∷ rest
     → new ≡ with_all_arcs b (arcs_of ts ps (shown_weighed (e, w))) → with_all_arcs new (arcs ts ps (map shown_weighed rest)) ≡ with_all_arcs b (arcs ts ps (map shown_weighed all))

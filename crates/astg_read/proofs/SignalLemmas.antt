@@ -1,5 +1,5 @@
 -- The signals as the entries of a map.
-use Rattle.std.proofs.Common.{◌≡◌, ℕ, ◌+◌, List, [], ◌∷◌, ◌++◌, Bool, true, false, not, map, position, None, Some, Option, refl, sym, ap, ◌∙◌}
+use Rattle.std.proofs.Common.{◌≡◌, ℕ, List, [], ◌∷◌, ◌++◌, true, false, map, position, None, Some, refl, sym, ap, ◌∙◌}
 use Rattle.std.specs.Borrow.{Bor}
 use Rattle.std.specs.List.{list_any}
 use Rattle.std.specs.Map.{keys_of}
@@ -35,5 +35,5 @@ pub signal-new : (signals : List Signal) (name : Bor (List ℕ)) (kind : Kind) (
     → stands_again same_name signals (map shown_signal all) ≡ false → number_of name.now signals ≡ None
 signal-new signals name kind rest all e h =
     position-none (λ (s : Signal). bytes_eq name.now s.name) signals
-      (or_parts (list_any (same_name (shown_signal (name, kind))) signals) (stands_again same_name (signals ++ shown_signal (name, kind) ∷ []) (map shown_signal rest))
-        (sym (ap (λ es. stands_again same_name signals (map shown_signal es)) e) ∙ h)).0
+    (or_parts (list_any (same_name (shown_signal (name, kind))) signals) (stands_again same_name (signals ++ shown_signal (name, kind) ∷ []) (map shown_signal rest))
+    (sym (ap (λ es. stands_again same_name signals (map shown_signal es)) e) ∙ h)).0

@@ -1,25 +1,22 @@
 -- Lines without a fault make sound lists.
-use Rattle.std.proofs.Common.{◌≡◌, ℕ, ◌≤◌, ◌<◌, zero, List, [], ◌∷◌, ◌++◌, Bool, true, false, cond, not, drop, ◌||◌, ◌&&◌, nat_lt, length, inl, inr, refl, sym, ap, subst, ◌∙◌, Some, None, Option, is_some, append-nil, arith, length-append}
+use Rattle.std.proofs.Common.{◌≡◌, ℕ, ◌≤◌, zero, List, [], ◌∷◌, ◌++◌, Bool, true, false, cond, not, drop, ◌||◌, ◌&&◌, nat_lt, length, inl, inr, refl, sym, ap, subst, ◌∙◌, Some, None, Option, append-nil, arith, length-append}
 use Rattle.std.proofs.lemmas.Bool.{cases_Bool, or_parts, and_parts, and_from, true≢false, ltb-true, lt-ltb}
 use Rattle.std.specs.Prelude.{codes}
 use Rattle.std.specs.List.{list_any, list_all}
 use Rattle.stg_net.specs.declared.signal.Kind.{Kind}
 use Rattle.stg_net.specs.declared.signal.Kind.TheVariants.{Input, Output, Internal}
-use Rattle.stg_net.specs.declared.signal.Signal.{Signal}
 use Rattle.stg_net.specs.declared.trans.TransName.{TransName}
 use Rattle.stg_net.specs.Names.{is_name}
-use Rattle.stg_net.specs.declared.limits.Limits.{Limits}
-use Rattle.astg_read.specs.declared.rule.Rule.TheVariants.{UnknownDirective, OutOfOrder, BadName, DeclaredTwice, UnknownSignal, NoEdge, BadArc, RepeatedArc, BadWeight, TooMany}
+use Rattle.astg_read.specs.declared.rule.Rule.TheVariants.{UnknownDirective, OutOfOrder, BadName, DeclaredTwice, UnknownSignal, NoEdge, BadArc, RepeatedArc, BadWeight}
 use Rattle.astg_read.specs.Rows.{Word, Row, begins, after_first, declares, is_graph_row}
-use Rattle.astg_read.specs.Header.{Declared, same_name, signals_of, signals_on}
+use Rattle.astg_read.specs.Header.{same_name, signals_of, signals_on}
 use Rattle.astg_read.specs.Lists.{stands_again, firsts}
 use Rattle.astg_read.specs.Nodes.{is_node, node_of, same_trans}
 use Rattle.astg_read.specs.Targets.{node_words, targets_after, targets_of, is_good_group}
-use Rattle.astg_read.specs.Graphs.{Pair, PlaceAt, same_pair, same_place, trans_at, place_at, pair_of, pairs_on, trans_on, places_on, weighs_trans}
-use Rattle.astg_read.specs.Markings.{is_unfinished}
+use Rattle.astg_read.specs.Graphs.{same_pair, same_place, trans_at, place_at, pairs_on, trans_on, places_on, weighs_trans}
 use Rattle.astg_read.specs.Known.{Known}
 use Rattle.astg_read.specs.Rules.{first_broken, line_rules, breaks_directive, breaks_order, breaks_names, declares_twice, has_unknown, has_no_edge, has_bad_arc, repeats_arc, has_bad_weight}
-use Rattle.astg_read.specs.Steps.{after_row, after_graph, in_graph, with_header, with_names, with_graph_row, trans_in, places_in}
+use Rattle.astg_read.specs.Steps.{after_row, after_graph, in_graph, with_names, with_graph_row, trans_in, places_in}
 use Rattle.astg_read.specs.Sound.{is_named, is_trans_in, is_place_in, is_weighed, IsSound, ArePairsIn}
 use Rattle.astg_read.specs.Taking.{line_fault}
 use Rattle.astg_read.proofs.Agains.{again-more, again-firsts, all-append, all-firsts}
@@ -51,8 +48,8 @@ wider n m (t ∷ ts) h k =
     let q = and_parts (is_trans_in n t) (list_all (is_trans_in n) ts) k in
     let r = and_parts (nat_lt t.signal n) (nat_lt t.index 1000000000) q.0 in
     and_from (is_trans_in m t) (list_all (is_trans_in m) ts)
-      (and_from (nat_lt t.signal m) (nat_lt t.index 1000000000) (lt-ltb t.signal m (omega (arith, h, ltb-true t.signal n r.0))) r.1)
-      (wider n m ts h q.1)
+    (and_from (nat_lt t.signal m) (nat_lt t.index 1000000000) (lt-ltb t.signal m (omega (arith, h, ltb-true t.signal n r.0))) r.1)
+    (wider n m ts h q.1)
 
 -- the tests of a line that breaks no rule
 module _ (most : ℕ) (k : Known) (row : Row) (none : line_fault most k row ≡ None) where
@@ -94,7 +91,8 @@ sound-header most k row none s =
       places_there = s.places_there;
       weighed = s.weighed;
       pairs_there = s.pairs_there;
-      pairs_differ = s.pairs_differ }
+      pairs_differ = s.pairs_differ;
+    }
 
 and_first : (a b : Bool) → a ≡ true → (a && b) ≡ false → b ≡ false
 and_first a b h e = sym (ap (λ x. x && b) h) ∙ e
@@ -110,22 +108,23 @@ sound-graph most k w ws g none s =
     let ps = pairs_on d (w ∷ ws) in
     let goods = (or_parts (not (list_all (is_good_group most) (targets_of (w ∷ ws)))) (list_any weighs_trans ps) (and_first (is_graph_row (w ∷ ws)) (not (list_all (is_good_group most) (targets_of (w ∷ ws))) || list_any weighs_trans ps) g (weights most k (w ∷ ws) none).0)).0 in
     let t : firsts same_trans k.trans (trans_on d (w ∷ ws)) ≡ firsts same_trans (firsts same_trans k.trans (trans_at (node_of d w))) (trans_in ps) =
-        firsts-append same_trans k.trans (trans_at (node_of d w) ++ []) (trans_in ps) ∙ ap (λ xs. firsts same_trans (firsts same_trans k.trans xs) (trans_in ps)) (append-nil (trans_at (node_of d w))) in
+    firsts-append same_trans k.trans (trans_at (node_of d w) ++ []) (trans_in ps) ∙ ap (λ xs. firsts same_trans (firsts same_trans k.trans xs) (trans_in ps)) (append-nil (trans_at (node_of d w))) in
     let q : firsts same_place k.places (places_on d (w ∷ ws)) ≡ firsts same_place (firsts same_place k.places (place_at (node_of d w))) (places_in ps) =
-        firsts-append same_place k.places (place_at (node_of d w) ++ []) (places_in ps) ∙ ap (λ xs. firsts same_place (firsts same_place k.places xs) (places_in ps)) (append-nil (place_at (node_of d w))) in
+    firsts-append same_place k.places (place_at (node_of d w) ++ []) (places_in ps) ∙ ap (λ xs. firsts same_place (firsts same_place k.places xs) (places_in ps)) (append-nil (place_at (node_of d w))) in
     let new : ArePairsIn (firsts same_trans k.trans (trans_on d (w ∷ ws))) (firsts same_place k.places (places_on d (w ∷ ws))) ps =
-        subst (λ a. ArePairsIn a (firsts same_place k.places (places_on d (w ∷ ws))) ps) (sym t)
-          (subst (λ b. ArePairsIn (firsts same_trans (firsts same_trans k.trans (trans_at (node_of d w))) (trans_in ps)) b ps) (sym q) (line-there d w ws k.trans k.places)) in
+    subst (λ a. ArePairsIn a (firsts same_place k.places (places_on d (w ∷ ws))) ps) (sym t)
+    (subst (λ b. ArePairsIn (firsts same_trans (firsts same_trans k.trans (trans_at (node_of d w))) (trans_in ps)) b ps) (sym q) (line-there d w ws k.trans k.places)) in
     record {
       named = s.named;
       names_differ = s.names_differ;
       trans_differ = again-firsts same_trans k.trans (trans_on d (w ∷ ws)) s.trans_differ;
       trans_there = all-firsts same_trans (is_trans_in (length d.signals)) k.trans (trans_on d (w ∷ ws)) s.trans_there (line-good d w ws);
       places_there = all-firsts same_place (is_place_in (firsts same_trans k.trans (trans_on d (w ∷ ws)))) k.places (places_on d (w ∷ ws)) (places-wider k.trans (trans_on d (w ∷ ws)) k.places s.places_there)
-        (line-places d w ws (firsts same_trans k.trans (trans_on d (w ∷ ws))) (firsts same_place k.places (places_on d (w ∷ ws))) new);
+          (line-places d w ws (firsts same_trans k.trans (trans_on d (w ∷ ws))) (firsts same_place k.places (places_on d (w ∷ ws))) new);
       weighed = all-append same_pair (is_weighed most) k.pairs ps s.weighed (line-weighed most d w (targets_after zero ws) (not-true (list_all (is_good_group most) (targets_after zero ws)) goods));
       pairs_there = pairs-append (firsts same_trans k.trans (trans_on d (w ∷ ws))) (firsts same_place k.places (places_on d (w ∷ ws))) k.pairs ps (pairs-more k.trans (trans_on d (w ∷ ws)) k.places (places_on d (w ∷ ws)) k.pairs s.pairs_there) new;
-      pairs_differ = again-more same_pair k.pairs ps s.pairs_differ (and_first (is_graph_row (w ∷ ws)) (stands_again same_pair k.pairs ps) g (repeated most k (w ∷ ws) none).0) }
+      pairs_differ = again-more same_pair k.pairs ps s.pairs_differ (and_first (is_graph_row (w ∷ ws)) (stands_again same_pair k.pairs ps) g (repeated most k (w ∷ ws) none).0);
+    }
 
 -- nothing of it speaks of the marking
 pub sound-marking : (most : ℕ) (k : Known) (m : Option Row) → IsSound most k → IsSound most (record k { marking = m })
@@ -139,21 +138,23 @@ sound-in_graph : (most : ℕ) (k : Known) (row : Row) → line_fault most k row 
 sound-in_graph most k row none s true b e f = subst (λ (x : Bool). IsSound most (cond x (record k { marking = Some (after_first row) }) (cond (is_graph_row row) (with_graph_row k row) k))) (sym e) (sound-marking most k (Some (after_first row)) s)
 sound-in_graph most k row none s false false e f =
     subst (λ (x : Bool). IsSound most (cond x (record k { marking = Some (after_first row) }) (cond (is_graph_row row) (with_graph_row k row) k))) (sym e)
-      (subst (λ (x : Bool). IsSound most (cond x (with_graph_row k row) k)) (sym f) s)
+    (subst (λ (x : Bool). IsSound most (cond x (with_graph_row k row) k)) (sym f) s)
 sound-in_graph most k [] none s false true e f = absurd (true≢false (sym f))
 sound-in_graph most k (w ∷ ws) none s false true e f =
     subst (λ (x : Bool). IsSound most (cond x (record k { marking = Some (after_first (w ∷ ws)) }) (cond (is_graph_row (w ∷ ws)) (with_graph_row k (w ∷ ws)) k))) (sym e)
-      (subst (λ (x : Bool). IsSound most (cond x (with_graph_row k (w ∷ ws)) k)) (sym f) (sound-graph most k w ws f none s))
+    (subst (λ (x : Bool). IsSound most (cond x (with_graph_row k (w ∷ ws)) k)) (sym f) (sound-graph most k w ws f none s))
 
 -- a line outside a marking
 pub sound-after : (most : ℕ) (k : Known) (row : Row) → line_fault most k row ≡ None → IsSound most k → IsSound most (after_row k row)
 sound-after most k row none s = elim (cases_Bool k.has_graph) [
-    inl h ↦ subst (IsSound most) (sym (after-begun k k.marking row h refl)) (by_marking k.marking)
-  | inr h ↦ subst (IsSound most) (sym (after-before k row h)) (by_start (begins (codes ".graph") row)) ]
+  | inl h ↦ subst (IsSound most) (sym (after-begun k k.marking row h refl)) (by_marking k.marking)
+  | inr h ↦ subst (IsSound most) (sym (after-before k row h)) (by_start (begins (codes ".graph") row))
+]
   where
     by_marking : (m : Option Row) → IsSound most (after_graph k m row)
     by_marking None = sound-in_graph most k row none s (begins (codes ".marking") row) (is_graph_row row) refl refl
     by_marking (Some words) = sound-marking most k (Some (words ++ row)) s
+
     by_start : (b : Bool) → IsSound most (cond b (record k { has_graph = true }) (record k { declared = with_names k.declared row }))
     by_start true = sound-begun most k true s
     by_start false = sound-header most k row none s

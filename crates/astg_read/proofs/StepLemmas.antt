@@ -1,5 +1,5 @@
 -- What the lines say grows by what each further line says.
-use Rattle.std.proofs.Common.{◌≡◌, ◌+◌, ℕ, List, [], ◌∷◌, ◌++◌, Bool, true, false, cond, not, ◌||◌, ◌⊎◌, inl, inr, map, filter, flat_map, refl, sym, ap, subst, ◌∙◌, None, Some, Option, append_assoc, append-nil}
+use Rattle.std.proofs.Common.{◌≡◌, List, [], ◌∷◌, ◌++◌, Bool, true, false, cond, ◌||◌, inl, inr, filter, flat_map, refl, sym, ap, subst, ◌∙◌, None, Some, Option, append_assoc, append-nil}
 use Rattle.std.proofs.lemmas.List.Concat.{flat_map-append}
 use Rattle.std.proofs.lemmas.List.Elements.{filter-append}
 use Rattle.std.proofs.lemmas.Bool.{cases_Bool, or_parts, false≢true}
@@ -12,7 +12,7 @@ use Rattle.astg_read.specs.Header.{Declared, declared, signals_on, dummies_on}
 use Rattle.astg_read.specs.Nodes.{same_trans}
 use Rattle.astg_read.specs.Graphs.{same_place, trans_on, places_on, pairs_on, transitions, places, pairs}
 use Rattle.astg_read.specs.Known.{Known, known}
-use Rattle.astg_read.specs.Steps.{with_names, with_header, with_graph_row, in_graph, after_graph, after_row}
+use Rattle.astg_read.specs.Steps.{with_names, with_header, with_graph_row, after_graph, after_row}
 
 -- the first new ones, and then the other ones
 pub firsts-append : {X : Type 0} (same : X → X → Bool) (seen xs ys : List X) → firsts same seen (xs ++ ys) ≡ firsts same (firsts same seen xs) ys
@@ -45,14 +45,16 @@ any-append f (r ∷ rows) row = ap (λ b. f r || b) (any-append f rows row) ∙ 
 header-after : (rows : List Row) (row : Row) → has_graph rows ≡ true → header_rows (rows ++ row ∷ []) ≡ header_rows rows
 header-after [] row h = absurd (false≢true h)
 header-after (r ∷ rows) row h = elim (cases_Bool (is_start r)) [
-    inl k ↦ ap (λ b. cond b [] (r ∷ header_rows (rows ++ row ∷ []))) k ∙ sym (ap (λ b. cond b [] (r ∷ header_rows rows)) k)
-  | inr k ↦ ap (λ rs. cond (is_start r) [] (r ∷ rs)) (header-after rows row (sym (ap (λ b. b || has_graph rows) k) ∙ h)) ]
+  | inl k ↦ ap (λ b. cond b [] (r ∷ header_rows (rows ++ row ∷ []))) k ∙ sym (ap (λ b. cond b [] (r ∷ header_rows rows)) k)
+  | inr k ↦ ap (λ rs. cond (is_start r) [] (r ∷ rs)) (header-after rows row (sym (ap (λ b. b || has_graph rows) k) ∙ h))
+]
 
 after-after : (rows : List Row) (row : Row) → has_graph rows ≡ true → rows_after_graph (rows ++ row ∷ []) ≡ rows_after_graph rows ++ row ∷ []
 after-after [] row h = absurd (false≢true h)
 after-after (r ∷ rows) row h = elim (cases_Bool (is_start r)) [
-    inl k ↦ ap (λ b. cond b (rows ++ row ∷ []) (rows_after_graph (rows ++ row ∷ []))) k ∙ sym (ap (λ b. cond b rows (rows_after_graph rows) ++ row ∷ []) k)
-  | inr k ↦ ap (λ b. cond b (rows ++ row ∷ []) (rows_after_graph (rows ++ row ∷ []))) k ∙ after-after rows row (sym (ap (λ b. b || has_graph rows) k) ∙ h) ∙ sym (ap (λ b. cond b rows (rows_after_graph rows) ++ row ∷ []) k) ]
+  | inl k ↦ ap (λ b. cond b (rows ++ row ∷ []) (rows_after_graph (rows ++ row ∷ []))) k ∙ sym (ap (λ b. cond b rows (rows_after_graph rows) ++ row ∷ []) k)
+  | inr k ↦ ap (λ b. cond b (rows ++ row ∷ []) (rows_after_graph (rows ++ row ∷ []))) k ∙ after-after rows row (sym (ap (λ b. b || has_graph rows) k) ∙ h) ∙ sym (ap (λ b. cond b rows (rows_after_graph rows) ++ row ∷ []) k)
+]
 
 -- where it didn't, the line joins the lines before it or is .graph itself
 header-before : (rows : List Row) (row : Row) → has_graph rows ≡ false → header_rows (rows ++ row ∷ []) ≡ rows ++ cond (is_start row) [] (row ∷ [])
@@ -86,21 +88,24 @@ is_marking row = begins (codes ".marking") row
 marking-before : (rows : List Row) (row : Row) → words_of_marking rows ≡ None → before_marking (rows ++ row ∷ []) ≡ before_marking rows ++ cond (is_marking row) [] (row ∷ [])
 marking-before [] row h = refl
 marking-before (r ∷ rows) row h = elim (cases_Bool (is_marking r)) [
-    inl k ↦ absurd (none_some (sym h ∙ ap (λ b. cond b (Some (after_first r ++ flat_map (λ x. x) rows)) (words_of_marking rows)) k))
-  | inr k ↦ ap (λ b. cond b [] (r ∷ before_marking (rows ++ row ∷ []))) k ∙ ap (λ rs. r ∷ rs) (marking-before rows row (sym (ap (λ b. cond b (Some (after_first r ++ flat_map (λ x. x) rows)) (words_of_marking rows)) k) ∙ h)) ∙ sym (ap (λ b. cond b [] (r ∷ before_marking rows) ++ cond (is_marking row) [] (row ∷ [])) k) ]
+  | inl k ↦ absurd (none_some (sym h ∙ ap (λ b. cond b (Some (after_first r ++ flat_map (λ x. x) rows)) (words_of_marking rows)) k))
+  | inr k ↦ ap (λ b. cond b [] (r ∷ before_marking (rows ++ row ∷ []))) k ∙ ap (λ rs. r ∷ rs) (marking-before rows row (sym (ap (λ b. cond b (Some (after_first r ++ flat_map (λ x. x) rows)) (words_of_marking rows)) k) ∙ h)) ∙ sym (ap (λ b. cond b [] (r ∷ before_marking rows) ++ cond (is_marking row) [] (row ∷ [])) k)
+]
 
 words-before : (rows : List Row) (row : Row) → words_of_marking rows ≡ None → words_of_marking (rows ++ row ∷ []) ≡ cond (is_marking row) (Some (after_first row)) None
 words-before [] row h = ap (λ ws. cond (is_marking row) (Some ws) None) (append-nil (after_first row))
 words-before (r ∷ rows) row h = elim (cases_Bool (is_marking r)) [
-    inl k ↦ absurd (none_some (sym h ∙ ap (λ b. cond b (Some (after_first r ++ flat_map (λ x. x) rows)) (words_of_marking rows)) k))
-  | inr k ↦ ap (λ b. cond b (Some (after_first r ++ flat_map (λ x. x) (rows ++ row ∷ []))) (words_of_marking (rows ++ row ∷ []))) k ∙ words-before rows row (sym (ap (λ b. cond b (Some (after_first r ++ flat_map (λ x. x) rows)) (words_of_marking rows)) k) ∙ h) ]
+  | inl k ↦ absurd (none_some (sym h ∙ ap (λ b. cond b (Some (after_first r ++ flat_map (λ x. x) rows)) (words_of_marking rows)) k))
+  | inr k ↦ ap (λ b. cond b (Some (after_first r ++ flat_map (λ x. x) (rows ++ row ∷ []))) (words_of_marking (rows ++ row ∷ []))) k ∙ words-before rows row (sym (ap (λ b. cond b (Some (after_first r ++ flat_map (λ x. x) rows)) (words_of_marking rows)) k) ∙ h)
+]
 
 -- in the marking
 marking-after : (rows : List Row) (row : Row) (words : Row) → words_of_marking rows ≡ Some words → before_marking (rows ++ row ∷ []) ≡ before_marking rows
 marking-after [] row words h = absurd (none_some h)
 marking-after (r ∷ rows) row words h = elim (cases_Bool (is_marking r)) [
-    inl k ↦ ap (λ b. cond b [] (r ∷ before_marking (rows ++ row ∷ []))) k ∙ sym (ap (λ b. cond b [] (r ∷ before_marking rows)) k)
-  | inr k ↦ ap (λ rs. cond (is_marking r) [] (r ∷ rs)) (marking-after rows row words (sym (ap (λ b. cond b (Some (after_first r ++ flat_map (λ x. x) rows)) (words_of_marking rows)) k) ∙ h)) ]
+  | inl k ↦ ap (λ b. cond b [] (r ∷ before_marking (rows ++ row ∷ []))) k ∙ sym (ap (λ b. cond b [] (r ∷ before_marking rows)) k)
+  | inr k ↦ ap (λ rs. cond (is_marking r) [] (r ∷ rs)) (marking-after rows row words (sym (ap (λ b. cond b (Some (after_first r ++ flat_map (λ x. x) rows)) (words_of_marking rows)) k) ∙ h))
+]
 
 join-more : (rows : List Row) (row : Row) → flat_map (λ x. x) (rows ++ row ∷ []) ≡ flat_map (λ x. x) rows ++ row
 join-more [] row = append-nil row
@@ -109,15 +114,22 @@ join-more (r ∷ rows) row = ap (λ ws. r ++ ws) (join-more rows row) ∙ sym (a
 words-after : (rows : List Row) (row : Row) (words : Row) → words_of_marking rows ≡ Some words → words_of_marking (rows ++ row ∷ []) ≡ Some (words ++ row)
 words-after [] row words h = absurd (none_some h)
 words-after (r ∷ rows) row words h = elim (cases_Bool (is_marking r)) [
-    inl k ↦ ap (λ b. cond b (Some (after_first r ++ flat_map (λ x. x) (rows ++ row ∷ []))) (words_of_marking (rows ++ row ∷ []))) k
-        ∙ ap (λ ws. Some (after_first r ++ ws)) (join-more rows row) ∙ ap Some (sym (append_assoc (after_first r) (flat_map (λ x. x) rows) row))
-        ∙ ap (option_map (λ ws. ws ++ row)) (sym (ap (λ b. cond b (Some (after_first r ++ flat_map (λ x. x) rows)) (words_of_marking rows)) k) ∙ h)
-  | inr k ↦ ap (λ b. cond b (Some (after_first r ++ flat_map (λ x. x) (rows ++ row ∷ []))) (words_of_marking (rows ++ row ∷ []))) k ∙ words-after rows row words (sym (ap (λ b. cond b (Some (after_first r ++ flat_map (λ x. x) rows)) (words_of_marking rows)) k) ∙ h) ]
+  | inl k ↦ ap (λ b. cond b (Some (after_first r ++ flat_map (λ x. x) (rows ++ row ∷ []))) (words_of_marking (rows ++ row ∷ []))) k
+      ∙ ap (λ ws. Some (after_first r ++ ws)) (join-more rows row) ∙ ap Some (sym (append_assoc (after_first r) (flat_map (λ x. x) rows) row))
+      ∙ ap (option_map (λ ws. ws ++ row)) (sym (ap (λ b. cond b (Some (after_first r ++ flat_map (λ x. x) rows)) (words_of_marking rows)) k) ∙ h)
+  | inr k ↦ ap (λ b. cond b (Some (after_first r ++ flat_map (λ x. x) (rows ++ row ∷ []))) (words_of_marking (rows ++ row ∷ []))) k ∙ words-after rows row words (sym (ap (λ b. cond b (Some (after_first r ++ flat_map (λ x. x) rows)) (words_of_marking rows)) k) ∙ h)
+]
 
 -- what is known of these four
 abbrev known_by : Bool → Declared → List Row → Option Row → Known
 known_by graph_stood d graph words = record {
-    has_graph = graph_stood; declared = d; trans = transitions d graph; places = places d graph; pairs = pairs d graph; marking = words }
+  has_graph = graph_stood;
+  declared = d;
+  trans = transitions d graph;
+  places = places d graph;
+  pairs = pairs d graph;
+  marking = words;
+}
 
 same_known : (b c : Bool) (ss ts : Declared) (rs qs : List Row) (v w : Option Row) → b ≡ c → ss ≡ ts → rs ≡ qs → v ≡ w → known_by b ss rs v ≡ known_by c ts qs w
 same_known b c ss ts rs qs v w p q r s = λ j. known_by (p j) (q j) (r j) (s j)
@@ -143,19 +155,20 @@ grows-header rows row h =
     let names : declared rows ≡ by_rows rows = ap by_rows (header-all rows h) in
     let whole = ap (λ b. cond b (after_graph (known rows) (marking_words rows) row) (with_header (known rows) row)) h in
     elim (cases_Bool (is_start row)) [
-      inl k ↦ same_known (has_graph (rows ++ row ∷ [])) true (declared (rows ++ row ∷ [])) (declared rows) (graph_rows (rows ++ row ∷ [])) (graph_rows rows) (marking_words (rows ++ row ∷ [])) (marking_words rows)
+      | inl k ↦ same_known (has_graph (rows ++ row ∷ [])) true (declared (rows ++ row ∷ [])) (declared rows) (graph_rows (rows ++ row ∷ [])) (graph_rows rows) (marking_words (rows ++ row ∷ [])) (marking_words rows)
           (any-append is_start rows row ∙ ap (λ b. b || is_start row) h ∙ k)
           (ap by_rows (header-before rows row h) ∙ ap (λ b. by_rows (rows ++ cond b [] (row ∷ []))) k ∙ ap by_rows (append-nil rows) ∙ sym names)
           graph words
-        ∙ sym (whole ∙ ap (λ b. cond b (record (known rows) { has_graph = true }) (record (known rows) { declared = with_names (declared rows) row })) k)
-    | inr k ↦
-        let none : graph_rows rows ≡ [] = ap (λ rs. filter is_graph_row (before_marking rs)) (after-none rows h) in
-        same_known (has_graph (rows ++ row ∷ [])) (has_graph rows) (declared (rows ++ row ∷ [])) (with_names (declared rows) row) (graph_rows (rows ++ row ∷ [])) [] (marking_words (rows ++ row ∷ [])) (marking_words rows)
+          ∙ sym (whole ∙ ap (λ b. cond b (record (known rows) { has_graph = true }) (record (known rows) { declared = with_names (declared rows) row })) k)
+      | inr k ↦
+          let none : graph_rows rows ≡ [] = ap (λ rs. filter is_graph_row (before_marking rs)) (after-none rows h) in
+          same_known (has_graph (rows ++ row ∷ [])) (has_graph rows) (declared (rows ++ row ∷ [])) (with_names (declared rows) row) (graph_rows (rows ++ row ∷ [])) [] (marking_words (rows ++ row ∷ [])) (marking_words rows)
           (any-append is_start rows row ∙ ap (λ b. b || is_start row) h ∙ k ∙ sym h)
           (ap by_rows (header-before rows row h) ∙ ap (λ b. by_rows (rows ++ cond b [] (row ∷ []))) k ∙ by_rows-after rows row ∙ ap (λ d. with_names d row) (sym names))
           (graph ∙ none) words
-        ∙ ap (λ g. record (known_by (has_graph rows) (declared rows) g (marking_words rows)) { declared = with_names (declared rows) row }) (sym none)
-        ∙ sym (whole ∙ ap (λ b. cond b (record (known rows) { has_graph = true }) (record (known rows) { declared = with_names (declared rows) row })) k) ]
+          ∙ ap (λ g. record (known_by (has_graph rows) (declared rows) g (marking_words rows)) { declared = with_names (declared rows) row }) (sym none)
+          ∙ sym (whole ∙ ap (λ b. cond b (record (known rows) { has_graph = true }) (record (known rows) { declared = with_names (declared rows) row })) k)
+    ]
 
 -- a line of the graph adds its transitions, places and pairs
 graph-more : (signals : Declared) (graph : List Row) (row : Row) (b : Bool) (words : Option Row) → known_by b signals (graph ++ row ∷ []) words ≡ with_graph_row (known_by b signals graph words) row
@@ -169,10 +182,10 @@ grows-graph : (rows : List Row) (row : Row) → has_graph rows ≡ true → (wor
 grows-graph rows row h (Some words) e =
     let after = after-after rows row h in
     same_known (has_graph (rows ++ row ∷ [])) (has_graph rows) (declared (rows ++ row ∷ [])) (declared rows) (graph_rows (rows ++ row ∷ [])) (graph_rows rows) (marking_words (rows ++ row ∷ [])) (Some (words ++ row))
-        (any-append is_start rows row ∙ ap (λ b. b || is_start row) h ∙ sym h)
-        (ap by_rows (header-after rows row h))
-        (ap (λ rs. filter is_graph_row (before_marking rs)) after ∙ ap (filter is_graph_row) (marking-after (rows_after_graph rows) row words e))
-        (ap words_of_marking after ∙ words-after (rows_after_graph rows) row words e)
+    (any-append is_start rows row ∙ ap (λ b. b || is_start row) h ∙ sym h)
+    (ap by_rows (header-after rows row h))
+    (ap (λ rs. filter is_graph_row (before_marking rs)) after ∙ ap (filter is_graph_row) (marking-after (rows_after_graph rows) row words e))
+    (ap words_of_marking after ∙ words-after (rows_after_graph rows) row words e)
     ∙ sym (ap (λ b. cond b (after_graph (known rows) (marking_words rows) row) (with_header (known rows) row)) h ∙ ap (λ w. after_graph (known rows) w row) e)
 grows-graph rows row h None e =
     let after = after-after rows row h in
@@ -180,28 +193,31 @@ grows-graph rows row h None e =
     let stood : has_graph (rows ++ row ∷ []) ≡ has_graph rows = any-append is_start rows row ∙ ap (λ b. b || is_start row) h ∙ sym h in
     let signals : declared (rows ++ row ∷ []) ≡ declared rows = ap by_rows (header-after rows row h) in
     let graph : graph_rows (rows ++ row ∷ []) ≡ graph_rows rows ++ filter is_graph_row (cond (is_marking row) [] (row ∷ [])) =
-        ap (λ rs. filter is_graph_row (before_marking rs)) after ∙ ap (filter is_graph_row) (marking-before (rows_after_graph rows) row e) ∙ filter-append is_graph_row (before_marking (rows_after_graph rows)) (cond (is_marking row) [] (row ∷ [])) in
+    ap (λ rs. filter is_graph_row (before_marking rs)) after ∙ ap (filter is_graph_row) (marking-before (rows_after_graph rows) row e) ∙ filter-append is_graph_row (before_marking (rows_after_graph rows)) (cond (is_marking row) [] (row ∷ [])) in
     let words : marking_words (rows ++ row ∷ []) ≡ cond (is_marking row) (Some (after_first row)) None = ap words_of_marking after ∙ words-before (rows_after_graph rows) row e in
     elim (cases_Bool (is_marking row)) [
-      inl k ↦ same_known (has_graph (rows ++ row ∷ [])) (has_graph rows) (declared (rows ++ row ∷ [])) (declared rows) (graph_rows (rows ++ row ∷ [])) (graph_rows rows) (marking_words (rows ++ row ∷ [])) (Some (after_first row))
+      | inl k ↦ same_known (has_graph (rows ++ row ∷ [])) (has_graph rows) (declared (rows ++ row ∷ [])) (declared rows) (graph_rows (rows ++ row ∷ [])) (graph_rows rows) (marking_words (rows ++ row ∷ [])) (Some (after_first row))
           stood signals
           (graph ∙ ap (λ b. graph_rows rows ++ filter is_graph_row (cond b [] (row ∷ []))) k ∙ append-nil (graph_rows rows))
           (words ∙ ap (λ b. cond b (Some (after_first row)) None) k)
-        ∙ sym (whole ∙ ap (λ b. cond b (record (known rows) { marking = Some (after_first row) }) (cond (is_graph_row row) (with_graph_row (known rows) row) (known rows))) k)
-    | inr k ↦
-        let others = ap (λ b. cond b (record (known rows) { marking = Some (after_first row) }) (cond (is_graph_row row) (with_graph_row (known rows) row) (known rows))) k in
-        let unmarked = words ∙ ap (λ b. cond b (Some (after_first row)) None) k ∙ sym e in
-        elim (cases_Bool (is_graph_row row)) [
-          inl g ↦ same_known (has_graph (rows ++ row ∷ [])) (has_graph rows) (declared (rows ++ row ∷ [])) (declared rows) (graph_rows (rows ++ row ∷ [])) (graph_rows rows ++ row ∷ []) (marking_words (rows ++ row ∷ [])) (marking_words rows)
-              stood signals (graph ∙ ap (λ b. graph_rows rows ++ filter is_graph_row (cond b [] (row ∷ []))) k ∙ ap (λ b. graph_rows rows ++ cond b (row ∷ []) []) g) unmarked
-            ∙ graph-more (declared rows) (graph_rows rows) row (has_graph rows) (marking_words rows)
-            ∙ sym (whole ∙ others ∙ ap (λ b. cond b (with_graph_row (known rows) row) (known rows)) g)
-        | inr g ↦ same_known (has_graph (rows ++ row ∷ [])) (has_graph rows) (declared (rows ++ row ∷ [])) (declared rows) (graph_rows (rows ++ row ∷ [])) (graph_rows rows) (marking_words (rows ++ row ∷ [])) (marking_words rows)
-              stood signals (graph ∙ ap (λ b. graph_rows rows ++ filter is_graph_row (cond b [] (row ∷ []))) k ∙ ap (λ b. graph_rows rows ++ cond b (row ∷ []) []) g ∙ append-nil (graph_rows rows)) unmarked
-            ∙ sym (whole ∙ others ∙ ap (λ b. cond b (with_graph_row (known rows) row) (known rows)) g) ] ]
+          ∙ sym (whole ∙ ap (λ b. cond b (record (known rows) { marking = Some (after_first row) }) (cond (is_graph_row row) (with_graph_row (known rows) row) (known rows))) k)
+      | inr k ↦
+          let others = ap (λ b. cond b (record (known rows) { marking = Some (after_first row) }) (cond (is_graph_row row) (with_graph_row (known rows) row) (known rows))) k in
+          let unmarked = words ∙ ap (λ b. cond b (Some (after_first row)) None) k ∙ sym e in
+          elim (cases_Bool (is_graph_row row)) [
+            | inl g ↦ same_known (has_graph (rows ++ row ∷ [])) (has_graph rows) (declared (rows ++ row ∷ [])) (declared rows) (graph_rows (rows ++ row ∷ [])) (graph_rows rows ++ row ∷ []) (marking_words (rows ++ row ∷ [])) (marking_words rows)
+                stood signals (graph ∙ ap (λ b. graph_rows rows ++ filter is_graph_row (cond b [] (row ∷ []))) k ∙ ap (λ b. graph_rows rows ++ cond b (row ∷ []) []) g) unmarked
+                ∙ graph-more (declared rows) (graph_rows rows) row (has_graph rows) (marking_words rows)
+                ∙ sym (whole ∙ others ∙ ap (λ b. cond b (with_graph_row (known rows) row) (known rows)) g)
+            | inr g ↦ same_known (has_graph (rows ++ row ∷ [])) (has_graph rows) (declared (rows ++ row ∷ [])) (declared rows) (graph_rows (rows ++ row ∷ [])) (graph_rows rows) (marking_words (rows ++ row ∷ [])) (marking_words rows)
+                stood signals (graph ∙ ap (λ b. graph_rows rows ++ filter is_graph_row (cond b [] (row ∷ []))) k ∙ ap (λ b. graph_rows rows ++ cond b (row ∷ []) []) g ∙ append-nil (graph_rows rows)) unmarked
+                ∙ sym (whole ∙ others ∙ ap (λ b. cond b (with_graph_row (known rows) row) (known rows)) g)
+          ]
+    ]
 
 -- what the lines say with one more is what they said, and what that one says
 pub known-after : (rows : List Row) (row : Row) → known (rows ++ row ∷ []) ≡ after_row (known rows) row
 known-after rows row = elim (cases_Bool (has_graph rows)) [
-    inl h ↦ grows-graph rows row h (words_of_marking (rows_after_graph rows)) refl
-  | inr h ↦ grows-header rows row h ]
+  | inl h ↦ grows-graph rows row h (words_of_marking (rows_after_graph rows)) refl
+  | inr h ↦ grows-header rows row h
+]

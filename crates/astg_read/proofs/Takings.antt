@@ -1,26 +1,24 @@
 -- What comes of a line, by what it says and by the counts after it.
-use Rattle.std.proofs.Common.{◌≡◌, ℕ, ◌≤◌, ◌+◌, List, [], ◌∷◌, ◌++◌, Bool, true, false, cond, not, drop, ◌⊎◌, ◌||◌, ◌&&◌, length, nat_lt, refl, sym, ap, subst, ◌∙◌, inl, inr, Some, None, Option, is_some, unwrap_or, Result, Ok, Err, MatchOption, append-nil, arith}
-use Rattle.std.proofs.lemmas.Bool.{cases_Bool, and_parts, cases_lt, lt-ltb, or_parts, true≢false, false≢true}
+use Rattle.std.proofs.Common.{◌≡◌, List, [], ◌∷◌, ◌++◌, Bool, true, false, cond, not, drop, ◌⊎◌, ◌&&◌, length, nat_lt, refl, sym, ap, subst, ◌∙◌, inl, inr, Some, None, Option, Result, Ok, Err, append-nil}
+use Rattle.std.proofs.lemmas.Bool.{cases_Bool, and_parts, false≢true}
 use Rattle.std.proofs.lemmas.Slice.Eq.{bytes_eq-Decides}
-use Rattle.std.specs.Prelude.{codes, ⊤}
-use Rattle.std.specs.List.{list_any}
+use Rattle.std.specs.Prelude.{codes}
 use Rattle.stg_net.specs.declared.limits.Limits.{Limits}
 use Rattle.stg_net.specs.declared.signal.Kind.{Kind}
 use Rattle.stg_net.specs.declared.signal.Kind.TheVariants.{Input, Output, Internal}
 use Rattle.stg_net.specs.declared.signal.Signal.{Signal}
 use Rattle.astg_read.specs.declared.rule.Rule.{Rule}
-use Rattle.astg_read.specs.declared.rule.Rule.TheVariants.{BadMarking, TooMany, HasDummy, UnknownDirective}
+use Rattle.astg_read.specs.declared.rule.Rule.TheVariants.{TooMany, HasDummy, UnknownDirective}
 use Rattle.astg_read.specs.declared.line_error.LineError.{LineError}
 use Rattle.astg_read.specs.declared.line_error.LineError.TheVariants.{Broken, NoMemory}
-use Rattle.astg_read.specs.Rows.{Word, Row, begins, begins_with_dot, after_first, is_header, is_directive, is_graph_row}
-use Rattle.astg_read.specs.Header.{Declared, signals_on}
-use Rattle.astg_read.specs.Markings.{is_bad_marking, is_unfinished, is_closing}
+use Rattle.astg_read.specs.Rows.{Word, Row, begins, begins_with_dot, after_first}
+use Rattle.astg_read.specs.Markings.{is_unfinished}
 use Rattle.astg_read.specs.Known.{Known}
-use Rattle.astg_read.specs.Rules.{first_broken, line_rules, outside_rules, has_too_many, has_dummy, breaks_directive, breaks_order, breaks_marking, marking_with, ends_text}
-use Rattle.astg_read.specs.Steps.{after_row, after_graph, in_graph, with_header, with_names}
+use Rattle.astg_read.specs.Rules.{first_broken, line_rules, outside_rules, has_too_many, has_dummy, breaks_directive, ends_text}
+use Rattle.astg_read.specs.Steps.{after_row, after_graph, with_header}
 use Rattle.astg_read.specs.GraphRules.{or_later}
 use Rattle.astg_read.specs.Taking.{line_fault, Says, Takes, verdict, taken, counted, directive}
-use Rattle.astg_read.proofs.Verdicts.{past, stop, verdict-outside, verdict-inside}
+use Rattle.astg_read.proofs.Verdicts.{past, stop, verdict-outside}
 
 and_true : (b : Bool) → (b && true) ≡ b
 and_true true = refl
@@ -34,8 +32,9 @@ and_false false = refl
 first_broken-append : (xs ys : List (Bool × Rule)) → first_broken (xs ++ ys) ≡ or_later (first_broken xs) (first_broken ys)
 first_broken-append [] ys = refl
 first_broken-append (x ∷ xs) ys = elim (cases_Bool x.0) [
-    inl k ↦ stop x.0 (Some x.1) (first_broken (xs ++ ys)) k ∙ sym (ap (λ b. or_later (cond b (Some x.1) (first_broken xs)) (first_broken ys)) k)
-  | inr k ↦ past x.0 (Some x.1) (first_broken (xs ++ ys)) k ∙ first_broken-append xs ys ∙ sym (ap (λ b. or_later (cond b (Some x.1) (first_broken xs)) (first_broken ys)) k) ]
+  | inl k ↦ stop x.0 (Some x.1) (first_broken (xs ++ ys)) k ∙ sym (ap (λ b. or_later (cond b (Some x.1) (first_broken xs)) (first_broken ys)) k)
+  | inr k ↦ past x.0 (Some x.1) (first_broken (xs ++ ys)) k ∙ first_broken-append xs ys ∙ sym (ap (λ b. or_later (cond b (Some x.1) (first_broken xs)) (first_broken ys)) k)
+]
 
 -- a line outside a marking that declares no dummies
 pub verdict-said : (limits : Limits) (k : Known) (row : Row) → is_unfinished k.marking ≡ false → begins (codes ".dummy") row ≡ false
@@ -70,9 +69,10 @@ or_later-none (Some r) g h = cc
 -- it changes no count
 after-end : (limits : Limits) (k : Known) (ws : Row) → has_too_many limits (after_row k (codes ".end" ∷ ws)) ≡ has_too_many limits k
 after-end limits k ws = elim (cases_Bool k.has_graph) [
-    inl h ↦ ap (λ b. has_too_many limits (cond b (after_graph k k.marking (codes ".end" ∷ ws)) (with_header k (codes ".end" ∷ ws)))) h ∙ by_marking k.marking
+  | inl h ↦ ap (λ b. has_too_many limits (cond b (after_graph k k.marking (codes ".end" ∷ ws)) (with_header k (codes ".end" ∷ ws)))) h ∙ by_marking k.marking
   | inr h ↦ ap (λ b. has_too_many limits (cond b (after_graph k k.marking (codes ".end" ∷ ws)) (with_header k (codes ".end" ∷ ws)))) h
-      ∙ ap (λ (ss : List Signal). has_too_many limits (record k { declared = record { signals = ss; dummies = k.declared.dummies } })) (append-nil k.declared.signals) ]
+      ∙ ap (λ (ss : List Signal). has_too_many limits (record k { declared = record { signals = ss; dummies = k.declared.dummies } })) (append-nil k.declared.signals)
+]
   where
     by_marking : (m : Option Row) → has_too_many limits (after_graph k m (codes ".end" ∷ ws)) ≡ has_too_many limits k
     by_marking None = refl
@@ -87,19 +87,21 @@ ends-inside k row h = ap (λ u. begins (codes ".end") row && not u) h ∙ and_fa
 
 pub too-taken : (limits : Limits) (k : Known) (row : Row) → has_too_many limits (after_row k row) ≡ has_too_many limits (taken k row)
 too-taken limits k row = elim (cases_Bool (ends_text k row)) [
-    inl h ↦ ap (λ r. has_too_many limits (after_row k r)) (end-row row (and_parts (begins (codes ".end") row) (not (is_unfinished k.marking)) h).0) ∙ after-end limits k (after_first row) ∙ sym (ap (has_too_many limits) (stop (ends_text k row) k (after_row k row) h))
-  | inr h ↦ sym (ap (has_too_many limits) (past (ends_text k row) k (after_row k row) h)) ]
+  | inl h ↦ ap (λ r. has_too_many limits (after_row k r)) (end-row row (and_parts (begins (codes ".end") row) (not (is_unfinished k.marking)) h).0) ∙ after-end limits k (after_first row) ∙ sym (ap (has_too_many limits) (stop (ends_text k row) k (after_row k row) h))
+  | inr h ↦ sym (ap (has_too_many limits) (past (ends_text k row) k (after_row k row) h))
+]
 
 -- what was said and counted is what comes of the line
 pub says-counted : (limits : Limits) (k new : Known) (row : Row) (said result : Result (Unit {0}) LineError) → is_unfinished k.marking ≡ false → begins (codes ".dummy") row ≡ false
     → Says limits.weight k row said new → result ≡ counted (has_too_many limits new) said → Takes limits k row result new
 says-counted limits k new row (Ok done) result h e s r =
     let f : verdict limits k row ≡ cond (has_too_many limits new) (Some TooMany) None =
-        verdict-said limits k row h e ∙ ap (λ f. or_later f (cond (has_too_many limits (after_row k row)) (Some TooMany) None)) s.0
-        ∙ ap (λ b. cond b (Some TooMany) None) (too-taken limits k row ∙ ap (has_too_many limits) (sym s.1)) in
+    verdict-said limits k row h e ∙ ap (λ f. or_later f (cond (has_too_many limits (after_row k row)) (Some TooMany) None)) s.0
+    ∙ ap (λ b. cond b (Some TooMany) None) (too-taken limits k row ∙ ap (has_too_many limits) (sym s.1)) in
     elim (cases_Bool (has_too_many limits new)) [
-      inl t ↦ subst (λ x. Takes limits k row x new) (sym (r ∙ stop (has_too_many limits new) (Err (Broken TooMany)) (Ok done) t)) (f ∙ stop (has_too_many limits new) (Some TooMany) None t)
-    | inr t ↦ subst (λ x. Takes limits k row x new) (sym (r ∙ past (has_too_many limits new) (Err (Broken TooMany)) (Ok done) t)) (f ∙ past (has_too_many limits new) (Some TooMany) None t, s.1) ]
+      | inl t ↦ subst (λ x. Takes limits k row x new) (sym (r ∙ stop (has_too_many limits new) (Err (Broken TooMany)) (Ok done) t)) (f ∙ stop (has_too_many limits new) (Some TooMany) None t)
+      | inr t ↦ subst (λ x. Takes limits k row x new) (sym (r ∙ past (has_too_many limits new) (Err (Broken TooMany)) (Ok done) t)) (f ∙ past (has_too_many limits new) (Some TooMany) None t, s.1)
+    ]
 says-counted limits k new row (Err (Broken rule)) result h e s r =
     subst (λ x. Takes limits k row x new) (sym r) (verdict-said limits k row h e ∙ ap (λ f. or_later f (cond (has_too_many limits (after_row k row)) (Some TooMany) None)) s)
 says-counted limits k new row (Err NoMemory) result h e s r = subst (λ x. Takes limits k row x new) (sym r) tt
@@ -114,12 +116,12 @@ after-before k row h = ap (λ b. cond b (after_graph k k.marking row) (with_head
 -- where no rule is broken each test fails
 pub broken-head : (r : Bool × Rule) (rs : List (Bool × Rule)) → first_broken (r ∷ rs) ≡ None → (r.0 ≡ false) × (first_broken rs ≡ None)
 broken-head r rs h = elim (cases_Bool r.0) [
-    inl k ↦ absurd (some_none (sym (stop r.0 (Some r.1) (first_broken rs) k) ∙ h))
-  | inr k ↦ (k, sym (past r.0 (Some r.1) (first_broken rs) k) ∙ h) ]
+  | inl k ↦ absurd (some_none (sym (stop r.0 (Some r.1) (first_broken rs) k) ∙ h))
+  | inr k ↦ (k, sym (past r.0 (Some r.1) (first_broken rs) k) ∙ h)
+]
   where
     some_none : Some r.1 ≡ None → ⊥
     some_none e = cc
-
 
 -- lines of these kinds declare no dummies
 pub titles-no_dummies : (w : Word) (ws : Row) → (w ≡ codes ".model") ⊎ (w ≡ codes ".name") → begins (codes ".dummy") (w ∷ ws) ≡ false

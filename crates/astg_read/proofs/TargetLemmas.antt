@@ -1,5 +1,5 @@
 -- The targets of words, one after the other.
-use Rattle.std.proofs.Common.{◌≡◌, ◌+◌, ◌<◌, ℕ, zero, suc, List, [], ◌∷◌, ◌++◌, true, false, cond, inl, inr, drop, take, length, map, refl, sym, ap, ◌∙◌, arith, Some, None}
+use Rattle.std.proofs.Common.{◌≡◌, ◌<◌, ℕ, zero, suc, List, [], ◌∷◌, ◌++◌, cond, inl, inr, drop, take, length, map, refl, sym, ap, ◌∙◌, arith}
 use Rattle.std.proofs.lemmas.Bool.{cases_Bool}
 use Rattle.std.proofs.Common.{◌-◌, take_all, length-drop, append_assoc}
 use Rattle.std.proofs.lemmas.List.{map-append, length-map}
@@ -7,7 +7,7 @@ use Rattle.astg_lex.specs.declared.words.Word.{Word}
 use Rattle.astg_read.specs.declared.targets.Target.{Target as ReadTarget}
 use Rattle.astg_read.specs.Shown.{texts, shown_target}
 use Rattle.astg_read.specs.Rows.{Row}
-use Rattle.astg_read.specs.Targets.{Target, target_at, targets_after, group_words, group_at, opens_group, target_words, front_target}
+use Rattle.astg_read.specs.Targets.{target_at, targets_after, group_at, opens_group, target_words, front_target}
 
 skipped : (n : ℕ) (ws : Row) → targets_after n ws ≡ targets_after zero (drop n ws)
 skipped zero [] = refl
@@ -23,10 +23,11 @@ drop-taken (suc n) (w ∷ ws) = drop-taken n ws
 
 from_front : (w : List ℕ) (ws : Row) → targets_after zero (w ∷ ws) ≡ target_at w ws ∷ targets_after zero (drop (target_words (w ∷ ws)) (w ∷ ws))
 from_front w ws = elim (cases_Bool (opens_group w)) [
-    inl k ↦ ap (λ b. target_at w ws ∷ targets_after (cond b 2 (length (group_at ws))) ws) k ∙ ap (λ ts. target_at w ws ∷ ts) (skipped 2 ws ∙ ap (targets_after zero) (sym (drop-taken 3 (w ∷ ws))))
-        ∙ sym (ap (λ b. target_at w ws ∷ targets_after zero (drop (cond b (length (take 3 (w ∷ ws))) (suc (length (group_at ws)))) (w ∷ ws))) k)
+  | inl k ↦ ap (λ b. target_at w ws ∷ targets_after (cond b 2 (length (group_at ws))) ws) k ∙ ap (λ ts. target_at w ws ∷ ts) (skipped 2 ws ∙ ap (targets_after zero) (sym (drop-taken 3 (w ∷ ws))))
+      ∙ sym (ap (λ b. target_at w ws ∷ targets_after zero (drop (cond b (length (take 3 (w ∷ ws))) (suc (length (group_at ws)))) (w ∷ ws))) k)
   | inr k ↦ ap (λ b. target_at w ws ∷ targets_after (cond b 2 (length (group_at ws))) ws) k ∙ ap (λ ts. target_at w ws ∷ ts) (skipped (length (group_at ws)) ws)
-        ∙ sym (ap (λ b. target_at w ws ∷ targets_after zero (drop (cond b (length (take 3 (w ∷ ws))) (suc (length (group_at ws)))) (w ∷ ws))) k) ]
+      ∙ sym (ap (λ b. target_at w ws ∷ targets_after zero (drop (cond b (length (take 3 (w ∷ ws))) (suc (length (group_at ws)))) (w ∷ ws))) k)
+]
 
 pub targets_after-front : (ws : Row) → 0 < length ws → targets_after zero ws ≡ front_target ws ∷ targets_after zero (drop (target_words ws) ws)
 targets_after-front [] some = absurd (omega (arith, some))
@@ -43,9 +44,9 @@ pub targets-preserved : (old new : List ReadTarget) (t : ReadTarget) (rest : Lis
     → map shown_target new ++ targets_after zero (texts (take (length rest - n) (drop n rest))) ≡ map shown_target old ++ targets_after zero (texts rest)
 targets-preserved old new t rest n pushed shows count some =
     let left : texts (take (length rest - n) (drop n rest)) ≡ drop (target_words (texts rest)) (texts rest) =
-        ap texts (take_all (length rest - n) (drop n rest) (omega (arith, length-drop n rest))) ∙ texts-drop n rest ∙ ap (λ k. drop k (texts rest)) count in
+    ap texts (take_all (length rest - n) (drop n rest) (omega (arith, length-drop n rest))) ∙ texts-drop n rest ∙ ap (λ k. drop k (texts rest)) count in
     let front : targets_after zero (texts rest) ≡ front_target (texts rest) ∷ targets_after zero (drop (target_words (texts rest)) (texts rest)) =
-        targets_after-front (texts rest) (omega (arith, some, length-map rest (λ (w : Word). w.text.now))) in
+    targets_after-front (texts rest) (omega (arith, some, length-map rest (λ (w : Word). w.text.now))) in
     ap (λ ts. map shown_target ts ++ targets_after zero (texts (take (length rest - n) (drop n rest)))) pushed
     ∙ ap (λ ws. map shown_target (old ++ t ∷ []) ++ targets_after zero ws) left
     ∙ ap (λ ts. ts ++ targets_after zero (drop (target_words (texts rest)) (texts rest))) (map-append shown_target old (t ∷ []))

@@ -1,5 +1,5 @@
 -- The first rule that a line breaks, by the kind of the line.
-use Rattle.std.proofs.Common.{◌≡◌, ℕ, List, [], ◌∷◌, ◌++◌, Bool, true, false, cond, not, ◌||◌, ◌&&◌, length, nat_lt, refl, sym, ap, ◌∙◌, Some, None, Option, is_some, drop, ◌==◌}
+use Rattle.std.proofs.Common.{◌≡◌, ℕ, [], ◌∷◌, Bool, true, false, cond, not, ◌||◌, length, nat_lt, refl, ap, ◌∙◌, Some, None, Option, is_some, drop}
 use Rattle.std.specs.Prelude.{codes}
 use Rattle.std.specs.List.{list_all, list_any}
 use Rattle.stg_net.specs.declared.limits.Limits.{Limits}
@@ -7,7 +7,7 @@ use Rattle.stg_net.specs.declared.signal.Kind.{Kind}
 use Rattle.stg_net.specs.declared.signal.Kind.TheVariants.{Input, Output, Internal}
 use Rattle.stg_net.specs.Names.{is_name}
 use Rattle.astg_read.specs.declared.rule.Rule.{Rule}
-use Rattle.astg_read.specs.declared.rule.Rule.TheVariants.{UnknownDirective, OutOfOrder, BadName, DeclaredTwice, UnknownSignal, NoEdge, BadArc, RepeatedArc, BadWeight, BadMarking, NoGraph, TooMany, HasDummy}
+use Rattle.astg_read.specs.declared.rule.Rule.TheVariants.{UnknownDirective, OutOfOrder, BadName, DeclaredTwice, UnknownSignal, NoEdge, BadMarking, NoGraph}
 use Rattle.astg_read.specs.Lists.{stands_again}
 use Rattle.astg_read.specs.Rows.{Word, Row, begins_with_dot}
 use Rattle.astg_read.specs.Header.{same_name, signals_of}
@@ -16,7 +16,7 @@ use Rattle.astg_read.specs.Nodes.{is_node, is_unknown, is_signal}
 use Rattle.astg_read.specs.Targets.{node_words, targets_of}
 use Rattle.astg_read.specs.Graphs.{pairs_on}
 use Rattle.astg_read.specs.Known.{Known}
-use Rattle.astg_read.specs.Rules.{first_broken, line_rules, outside_rules, has_too_many, breaks_marking, breaks_directive, has_dummy}
+use Rattle.astg_read.specs.Rules.{first_broken, line_rules, outside_rules, breaks_marking, breaks_directive}
 use Rattle.astg_read.specs.Steps.{after_row}
 use Rattle.astg_read.specs.Taking.{line_fault, directive, verdict}
 use Rattle.astg_read.specs.GraphRules.{graph_fault, pair_fault, or_later}
@@ -86,9 +86,9 @@ or_later-three false false false r s t later = refl
 
 in_order : (most : ℕ) (k : Known) (row : Row)
     → cond (not k.has_graph || is_some k.marking) (Some OutOfOrder)
-      (cond (not (list_all (is_node k.declared) (node_words row))) (Some BadName)
-      (cond (list_any (is_unknown k.declared) (node_words row)) (Some UnknownSignal)
-      (cond (list_any (is_signal k.declared) (node_words row)) (Some NoEdge) (pair_fault most k.pairs (pairs_on k.declared row) (targets_of row))))) ≡ graph_fault most k row
+    (cond (not (list_all (is_node k.declared) (node_words row))) (Some BadName)
+    (cond (list_any (is_unknown k.declared) (node_words row)) (Some UnknownSignal)
+    (cond (list_any (is_signal k.declared) (node_words row)) (Some NoEdge) (pair_fault most k.pairs (pairs_on k.declared row) (targets_of row))))) ≡ graph_fault most k row
 in_order most k row = ap (λ later. cond (not k.has_graph || is_some k.marking) (Some OutOfOrder) later)
     (or_later-three (not (list_all (is_node k.declared) (node_words row))) (list_any (is_unknown k.declared) (node_words row)) (list_any (is_signal k.declared) (node_words row)) BadName UnknownSignal NoEdge (pair_fault most k.pairs (pairs_on k.declared row) (targets_of row)))
 
@@ -98,9 +98,9 @@ fault-nodes most k [] ws n = in_order most k ([] ∷ ws)
 fault-nodes most k (c ∷ cs) ws n = by_tests ∙ in_order most k ((c ∷ cs) ∷ ws)
   where
     by_tests : line_fault most k ((c ∷ cs) ∷ ws) ≡ cond (not k.has_graph || is_some k.marking) (Some OutOfOrder)
-      (cond (not (list_all (is_node k.declared) (node_words ((c ∷ cs) ∷ ws)))) (Some BadName)
-      (cond (list_any (is_unknown k.declared) (node_words ((c ∷ cs) ∷ ws))) (Some UnknownSignal)
-      (cond (list_any (is_signal k.declared) (node_words ((c ∷ cs) ∷ ws))) (Some NoEdge) (pair_fault most k.pairs (pairs_on k.declared ((c ∷ cs) ∷ ws)) (targets_of ((c ∷ cs) ∷ ws))))))
+        (cond (not (list_all (is_node k.declared) (node_words ((c ∷ cs) ∷ ws)))) (Some BadName)
+        (cond (list_any (is_unknown k.declared) (node_words ((c ∷ cs) ∷ ws))) (Some UnknownSignal)
+        (cond (list_any (is_signal k.declared) (node_words ((c ∷ cs) ∷ ws))) (Some NoEdge) (pair_fault most k.pairs (pairs_on k.declared ((c ∷ cs) ∷ ws)) (targets_of ((c ∷ cs) ∷ ws))))))
     by_tests = rw n refl
 
 -- outside a marking

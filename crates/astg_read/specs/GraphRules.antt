@@ -1,5 +1,5 @@
 -- The rules of a graph line, one after the other.
-use Rattle.std.specs.Prelude.{ℕ, Bool, List, not, ◌||◌, Option, None, Some, is_some, if◌then◌else◌}
+use Rattle.std.specs.Prelude.{ℕ, List, not, ◌||◌, Option, None, Some, is_some, if◌then◌else◌}
 use Rattle.std.specs.List.{list_all, list_any}
 use Rattle.astg_read.specs.declared.rule.Rule.{Rule}
 use Rattle.astg_read.specs.declared.rule.Rule.TheVariants.{OutOfOrder, BadName, UnknownSignal, NoEdge, BadArc, RepeatedArc, BadWeight}

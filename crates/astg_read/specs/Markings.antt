@@ -1,5 +1,5 @@
 -- The words of a marking, which may not be all there yet.
-use Rattle.std.specs.Prelude.{ℕ, zero, suc, Bool, true, false, not, ◌&&◌, ◌||◌, ◌+◌, nat_lt, nat_eq, List, [], ◌∷◌, length, take, drop, bytes_eq, codes, Option, None, Some, is_some, option_map, option_and_then, unwrap_or, if◌then◌else◌}
+use Rattle.std.specs.Prelude.{ℕ, zero, suc, Bool, true, false, not, ◌&&◌, ◌||◌, ◌+◌, nat_lt, nat_eq, List, [], ◌∷◌, length, take, drop, bytes_eq, codes, Option, None, Some, is_some, unwrap_or, if◌then◌else◌}
 use Rattle.std.specs.List.{list_any}
 use Rattle.std.specs.Option.{option_map_or}
 use Rattle.stg_net.specs.Names.{is_name}

@@ -1,6 +1,7 @@
 -- Which specification a text stands for, and by which rule it is refused.
 use Rattle.std.specs.Prelude.{◌≡◌, ℕ, false, List, Ok, Err, ⊤}
 use Rattle.stg_net.specs.declared.limits.Limits.{Limits}
+use Rattle.stg_net.specs.Net.{NetLists}
 use Rattle.stg_net.specs.Spec.{SpecLists}
 use Rattle.astg_read.specs.declared.rule.Rule.{Rule}
 use Rattle.astg_read.specs.declared.rule.ReadError.{ReadError}
@@ -12,6 +13,12 @@ pub record StandsFor (limits : Limits) (text : List ℕ) (spec : SpecLists) : Ty
   pub meaning : Meaning
   pub reads : reading false limits text ≡ Ok meaning
   pub is : IsSpecOf meaning spec
+
+-- the text stands for a specification with this net
+pub record StandsForNet (limits : Limits) (text : List ℕ) (n : NetLists) : Type 0 where
+  pub spec : SpecLists
+  pub stands : StandsFor limits text spec
+  pub net : spec.net ≡ n
 
 -- the text's first bad line is this one, and the first rule that it breaks is this one
 abbrev pub IsUnread : Limits → List ℕ → Rule → ℕ → Type 0

@@ -1,5 +1,5 @@
 -- What a call that takes a line returns.
-use Rattle.std.specs.Prelude.{◌≡◌, ℕ, ◌≤◌, Bool, false, List, [], ◌∷◌, length, map, option_map, codes, Option, None, Some, Result, Ok, Err, if◌then◌else◌, ◌⊎◌, true, MatchOption, ⊤}
+use Rattle.std.specs.Prelude.{◌≡◌, ℕ, ◌≤◌, Bool, false, [], ◌∷◌, length, codes, Option, None, Some, Result, Ok, Err, if◌then◌else◌, ◌⊎◌, true, MatchOption, ⊤}
 use Rattle.stg_net.specs.declared.limits.Limits.{Limits}
 use Rattle.stg_net.specs.declared.signal.Kind.{Kind}
 use Rattle.stg_net.specs.declared.signal.Kind.TheVariants.{Input, Output, Internal}
@@ -9,12 +9,11 @@ use Rattle.astg_read.specs.declared.line_error.LineError.{LineError}
 use Rattle.astg_read.specs.declared.line_error.LineError.TheVariants.{Broken, NoMemory}
 use Rattle.astg_read.specs.declared.rule.ReadError.{ReadError}
 use Rattle.astg_read.specs.declared.rule.ReadError.TheVariants as errors
-use Rattle.astg_read.specs.Reading.{Meaning, Fault, IsSpecOf}
-use Rattle.stg_net.specs.Spec.{SpecLists}
+use Rattle.astg_read.specs.Reading.{Meaning, Fault}
 use Rattle.astg_read.specs.declared.kinds.LineKind.{LineKind}
 use Rattle.astg_read.specs.declared.kinds.LineKind.TheVariants as kinds
 use Rattle.astg_read.specs.declared.reader.Reader.{Reader}
-use Rattle.astg_read.specs.Rows.{Word, Row, begins, begins_with_dot}
+use Rattle.astg_read.specs.Rows.{Word, Row, begins_with_dot}
 use Rattle.astg_read.specs.Header.{without_dummies}
 use Rattle.astg_read.specs.Known.{Known}
 use Rattle.astg_read.specs.Markings.{is_bad_marking}
@@ -25,13 +24,13 @@ use Rattle.astg_read.specs.Steps.{after_row}
 -- what the reader knows
 abbrev pub known_of : Reader → Known
 known_of r = record {
-    has_graph = r.has_graph;
-    declared = without_dummies r.signals;
-    trans = r.graph.trans;
-    places = r.graph.places;
-    pairs = r.graph.pairs;
-    marking = r.marking;
-  }
+  has_graph = r.has_graph;
+  declared = without_dummies r.signals;
+  trans = r.graph.trans;
+  places = r.graph.places;
+  pairs = r.graph.pairs;
+  marking = r.marking;
+}
 
 -- before the first line
 abbrev pub nothing : Known
@@ -99,12 +98,6 @@ abbrev pub Gives : Meaning → Result (Unit {0}) ReadError → Result Meaning Fa
 Gives m (Ok _) read = read ≡ Ok m
 Gives m (Err (errors.Refused rule line)) read = read ≡ Err (record { rule = rule; line = line })
 Gives m (Err errors.NoMemory) read = Unit {0}
-
--- The text stands for this specification, or has this fault, unless memory ran out.
-abbrev pub Reads : Result Meaning Fault → Result SpecLists ReadError → Type 0
-Reads read (Ok s) = (m : Meaning) × ((read ≡ Ok m) × IsSpecOf m s)
-Reads read (Err (errors.Refused rule line)) = read ≡ Err (record { rule = rule; line = line })
-Reads read (Err errors.NoMemory) = Unit {0}
 
 -- Words are added to a marking, or refused where it is wrong with them, unless memory ran out.
 abbrev pub Marks : Bool → Row → Result (Unit {0}) LineError → Row → Type 0

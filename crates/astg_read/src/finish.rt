@@ -18,8 +18,8 @@ ghost use Rattle.stg_net.specs.Net.{IsWithin};
 ghost use Rattle.astg_read.specs.Shown.{shown_marks, shown_node, shown_place, shown_weighed};
 
 use crate::graph::{Ends, Graph, GraphParts, Place};
-use crate::marks::{Mark, tokens_at};
 use crate::marking::Marking;
+use crate::marks::{Mark, tokens_at};
 use crate::nodes::Node;
 use crate::reader::Reader;
 use crate::signals::Signals;
@@ -291,11 +291,7 @@ fn marks_in<'a>(
 }
 
 /// The specification of what the lines say.
-pub fn finish<'a>(
-    alloc: Global,
-    limits: &Limits,
-    reader: Reader<'a>,
-) -> Result<Spec, NoMemory>
+pub fn finish<'a>(alloc: Global, limits: &Limits, reader: Reader<'a>) -> Result<Spec, NoMemory>
     requires limits { AreLimits limits.now }
     requires kept { IsKept limits.now (known_of reader) }
     ensures spec { IfOk result (λ s. readings.IsSpecOf (readings.meaning_of (known_of reader.entry)) s) }

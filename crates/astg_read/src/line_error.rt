@@ -13,6 +13,7 @@ pub enum LineError {
 impl From<Want> for LineError {
     ghost use Rattle.std.specs.Prelude.{◌≡◌};
     ghost use Rattle.astg_read.specs.declared.line_error.LineError.TheVariants.{NoMemory};
+
     ghost from_gives = { λ _ e. e ≡ NoMemory };
 
     fn from(_: Want) -> Self {

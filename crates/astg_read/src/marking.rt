@@ -234,11 +234,7 @@ impl<'a> Marking<'a> {
     }
 
     /// What the entries mark, in order.
-    pub fn marks(
-        &self,
-        alloc: Global,
-        signals: &Signals<'_>,
-    ) -> Result<Seq<Mark<'a>>, NoMemory>
+    pub fn marks(&self, alloc: Global, signals: &Signals<'_>) -> Result<Seq<Mark<'a>>, NoMemory>
         requires { length signals.now < 2 ^ 32 }
         ensures { IfOk result (λ marks. shown_marks marks ≡ marked.marks_of (without_dummies signals.now) (markings.entries_of self.now)) }
     {

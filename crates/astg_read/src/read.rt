@@ -3,13 +3,13 @@
 ghost use Rattle.std.specs.Prelude.{◌≡◌, ◌≤◌, ◌<◌, ◌^◌, length};
 ghost use Rattle.astg_lex.specs.Lines as all_lines;
 ghost use Rattle.stg_net.specs.Net.{IsWithin};
-ghost use Rattle.stg_net.specs.declared.limits.TheConstants.Limits.{SPEC};
+ghost use Rattle.stg_net.specs.declared.limits.TheConstants.Limits.{PART, SPEC};
 ghost use Rattle.astg_read.specs.Built.{AreLimits};
 ghost use Rattle.astg_read.specs.Reading.{meaning_of, reading};
 ghost use Rattle.astg_read.specs.Reading as readings;
-ghost use Rattle.astg_read.specs.Taking.{Gives, IsKept, Reads, known_of, nothing};
+ghost use Rattle.astg_read.specs.Standing.{IsUnreadBy, StandsFor, StandsForNet};
+ghost use Rattle.astg_read.specs.Taking.{Gives, IsKept, known_of, nothing};
 ghost use Rattle.std.specs.Prelude.{false, IfErr, IfOk, OnOk};
-ghost use Rattle.astg_read.specs.Standing.{StandsFor, IsUnreadBy};
 
 use crate::finish::finish;
 use crate::line_error::LineError;
@@ -17,7 +17,7 @@ use crate::reader::Reader;
 use crate::{ReadError, Rule};
 use astg_lex::LexError;
 use std::alloc::Global;
-use stg_net::{Limits, Spec};
+use stg_net::{Limits, Net, Spec};
 
 fn line_ends(text: &[u8]) -> u32
     requires { length text.now ≤ 16777216 }
@@ -123,4 +123,16 @@ pub fn read_spec(alloc: Global, text: &[u8]) -> Result<Spec, ReadError>
     ensures within { IfOk result (λ s. IsWithin SPEC s.net) }
 {
     read_with(alloc, text, &Limits::SPEC)
+}
+
+/// Reads a component text, and gives its net.
+pub fn read_part(alloc: Global, text: &[u8]) -> Result<Net, ReadError>
+    ensures value { IfOk result (λ n. StandsForNet PART text.now n) }
+    ensures refused { IfErr result (λ e. IsUnreadBy PART text.now e) }
+    ensures within { IfOk result (λ n. IsWithin PART n) }
+{
+    match read_with(alloc, text, &Limits::PART) {
+        Ok(spec) => Ok(spec.into_net()),
+        Err(error) => Err(error),
+    }
 }

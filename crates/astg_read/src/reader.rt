@@ -15,6 +15,7 @@ ghost use Rattle.astg_read.specs.Targets.{words_in};
 ghost use Rattle.astg_read.specs.GraphRules as rules;
 ghost use Rattle.astg_read.specs.Rules as line_rules;
 
+use crate::Rule;
 use crate::graph::Graph;
 use crate::kinds::{LineKind, kind_of};
 use crate::line_error::LineError;
@@ -24,7 +25,6 @@ use crate::nodes::{is_node, is_signal, is_unknown, node_of};
 use crate::pairs::{Pair, join_places, pairs_of, weigh_trans};
 use crate::signals::Signals;
 use crate::targets::{Target, are_nodes, are_weighed, have_signal, have_unknown, targets_of};
-use crate::Rule;
 use astg_lex::Word;
 use std::alloc::Global;
 use stg_net::{Kind, Limits, NoMemory};

@@ -54,4 +54,15 @@ impl Spec {
     {
         self.place_names.as_slice()
     }
+
+    /// The net, without the names of the places.
+    pub fn into_net(self) -> Net
+        ensures { result ≡ self.net }
+    {
+        let Spec {
+            net,
+            place_names: _,
+        } = self;
+        net
+    }
 }

@@ -1,4 +1,4 @@
-use Rattle.std.proofs.Common.{◌≡◌, ◌∙◌, ◌+◌, length, refl, arith}
+use Rattle.std.proofs.Common.{◌∙◌, arith}
 use Rattle.astg_read.proofs.EntryLemmas.{entries-preserved}
 use Rattle.astg_read.proofs.entries.entries_of.Goals as goal
 

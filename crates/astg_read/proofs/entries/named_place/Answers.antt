@@ -1,4 +1,4 @@
-use Rattle.std.proofs.Common.{◌≡◌, ◌∙◌, arith}
+use Rattle.std.proofs.Common.{◌∙◌, arith}
 use Rattle.astg_read.specs.Markings.{between_both}
 use Rattle.astg_read.proofs.EntryLemmas.{named-none, named-one, named-five}
 use Rattle.astg_read.proofs.entries.named_place.Goals as goal

@@ -7,5 +7,5 @@ use Rattle.astg_read.proofs.finish.add_arcs.Given as goal
 abbrev pub invariant-loop-ends : goal.invariant-loop-ends
 invariant-loop-ends l = record {
   ready : AreReady l.builder l.trans.keys (map shown_place l.places.keys) (map shown_weighed l.ends-iterator);
-  so_far : with_all_arcs l.builder (arcs l.trans.keys (map shown_place l.places.keys) (map shown_weighed l.ends-iterator)) ≡ with_all_arcs l.initial.builder (arcs l.trans.keys (map shown_place l.places.keys) (map shown_weighed l.initial.ends-iterator))
+  so_far : with_all_arcs l.builder (arcs l.trans.keys (map shown_place l.places.keys) (map shown_weighed l.ends-iterator)) ≡ with_all_arcs l.initial.builder (arcs l.trans.keys (map shown_place l.places.keys) (map shown_weighed l.initial.ends-iterator));
 }

@@ -1,10 +1,9 @@
-use Rattle.std.proofs.Common.{◌≡◌, ◌≤◌, map, refl, sym, subst, unwrap_or, true, false, ℕ, length, arith, List, [], ◌∷◌, ◌++◌, All, ◌<◌}
+use Rattle.std.proofs.Common.{◌≤◌, map, refl, sym, subst, unwrap_or, false, ℕ}
 use Rattle.stg_net.specs.declared.arc.NetArc.{NetArc}
-use Rattle.stg_net.specs.Building.{Building, HasEnds}
-use Rattle.astg_read.specs.Graphs.{Pair, Named, Between}
+use Rattle.astg_read.specs.Graphs.{Pair, Named}
 use Rattle.astg_read.specs.Nodes.{Trans, Place}
 use Rattle.astg_read.specs.Shown.{shown_place}
-use Rattle.astg_read.proofs.ArcLemmas.{IsArcFrom, meets, weight-fits, second-fresh}
+use Rattle.astg_read.proofs.ArcLemmas.{IsArcFrom, meets, weight-fits}
 use Rattle.astg_read.proofs.finish.add_out_of.Goals as goal
 
 pub add_arc-requires : goal.add_arc-requires
@@ -15,7 +14,10 @@ add_arc-requires c =
       arrow = record { place = Named c.args.from.now; trans = c.args.to; into = false };
       weight = unwrap_or c.args.weight 1;
       is = (λ j. record { place = c.place_number.ensures j; trans = c.trans_number.ensures j; into = false; weight = c.unwrap_or.ensures j });
-      source = refl; target = refl; inside = (c.requires.there.target_there, c.requires.there.source_there) } in
+      source = refl;
+      target = refl;
+      inside = (c.requires.there.target_there, c.requires.there.source_there);
+    } in
     let p : Pair = record { source = Place c.args.from.now; target = Trans c.args.to; weight = c.args.weight } in
     let m = meets c.args.builder.now ts ps p c.requires a f in
     let w = weight-fits c.args.builder.now ts ps p c.requires in

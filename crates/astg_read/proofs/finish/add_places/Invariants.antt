@@ -7,5 +7,5 @@ use Rattle.astg_read.proofs.finish.add_places.Given as goal
 abbrev pub invariant-loop-place : goal.invariant-loop-place
 invariant-loop-place l = record {
   limits : l.builder.limits ≡ l.initial.builder.limits;
-  so_far : with_all_tokens l.builder (map (tokens_at (shown_marks l.marks)) (map shown_place (drop l.place-index l.places))) ≡ with_all_tokens l.initial.builder (map (tokens_at (shown_marks l.marks)) (map shown_place l.places))
+  so_far : with_all_tokens l.builder (map (tokens_at (shown_marks l.marks)) (map shown_place (drop l.place-index l.places))) ≡ with_all_tokens l.initial.builder (map (tokens_at (shown_marks l.marks)) (map shown_place l.places));
 }

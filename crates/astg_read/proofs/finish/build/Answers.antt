@@ -26,13 +26,13 @@ add_arcs-requires c =
     let b0 = c.new-builder.ensures in let b1 = c.in_ok-add_to.ensures in let b2 = c.in_ok-add_trans.ensures in let b3 = c.in_ok-add_places.ensures in
     let ts = c.as_slice-2.result.now in let ks = map f (map shown_place c.as_slice-3.result.now) in
     ready-from c.args.limits.now ss g c.add_places.new.builder c.into_parts-trans.result.trans.keys (map shown_place c.into_parts-trans.result.places.keys) (map shown_weighed c.into_parts-trans.result.weights.entries)
-      parts.trans parts.places parts.pairs
-      (ap (λ (x : Building). x.limits) b3 ∙ ap (λ (x : Building). x.limits) b2 ∙ ap (λ (x : Building). x.limits) b1 ∙ ap (λ (x : Building). x.limits) b0)
-      (ap (λ (x : Building). x.lists.trans) b3 ∙ ap (λ (x : Building). x.lists.trans) b2 ∙ ap (λ (x : Building). x.lists.trans ++ ts) b1 ∙ ap (λ (x : Building). x.lists.trans ++ ts) b0 ∙ c.as_slice-2.ensures.keys ∙ parts.trans)
-      (ap length (ap (λ (x : Building). x.lists.tokens) b3 ∙ ap (λ (x : Building). x.lists.tokens ++ ks) b2 ∙ ap (λ (x : Building). x.lists.tokens ++ ks) b1 ∙ ap (λ (x : Building). x.lists.tokens ++ ks) b0
-        ∙ ap (map f) (ap (map shown_place) c.as_slice-3.ensures.keys ∙ parts.places)) ∙ length-map g.places f)
-      (ap (λ (x : Building). x.lists.arcs) b3 ∙ ap (λ (x : Building). x.lists.arcs) b2 ∙ ap (λ (x : Building). x.lists.arcs) b1 ∙ ap (λ (x : Building). x.lists.arcs) b0)
-      c.requires.limits c.requires.kept.sound c.requires.kept.counts
+    parts.trans parts.places parts.pairs
+    (ap (λ (x : Building). x.limits) b3 ∙ ap (λ (x : Building). x.limits) b2 ∙ ap (λ (x : Building). x.limits) b1 ∙ ap (λ (x : Building). x.limits) b0)
+    (ap (λ (x : Building). x.lists.trans) b3 ∙ ap (λ (x : Building). x.lists.trans) b2 ∙ ap (λ (x : Building). x.lists.trans ++ ts) b1 ∙ ap (λ (x : Building). x.lists.trans ++ ts) b0 ∙ c.as_slice-2.ensures.keys ∙ parts.trans)
+    (ap length (ap (λ (x : Building). x.lists.tokens) b3 ∙ ap (λ (x : Building). x.lists.tokens ++ ks) b2 ∙ ap (λ (x : Building). x.lists.tokens ++ ks) b1 ∙ ap (λ (x : Building). x.lists.tokens ++ ks) b0
+    ∙ ap (map f) (ap (map shown_place) c.as_slice-3.ensures.keys ∙ parts.places)) ∙ length-map g.places f)
+    (ap (λ (x : Building). x.lists.arcs) b3 ∙ ap (λ (x : Building). x.lists.arcs) b2 ∙ ap (λ (x : Building). x.lists.arcs) b1 ∙ ap (λ (x : Building). x.lists.arcs) b0)
+    c.requires.limits c.requires.kept.sound c.requires.kept.counts
 
 pub new-requires : goal.new-requires
 new-requires c =
@@ -44,26 +44,27 @@ new-requires c =
     let linked_arcs = arcs c.into_parts-trans.result.trans.keys (map shown_place c.into_parts-trans.result.places.keys) (map shown_weighed c.into_parts-trans.result.weights.entries) in
     let n = c.in_ok-net.net in
     let signals : c.add_arcs.new.builder.lists.signals ≡ ss =
-        ap (λ (x : Building). x.lists.signals) b4 ∙ ap (λ (x : Building). x.lists.signals) b3 ∙ ap (λ (x : Building). x.lists.signals) b2 ∙ ap (λ (x : Building). x.lists.signals) b1 ∙ ap (λ (x : Building). x.lists.signals ++ ss) b0 in
+    ap (λ (x : Building). x.lists.signals) b4 ∙ ap (λ (x : Building). x.lists.signals) b3 ∙ ap (λ (x : Building). x.lists.signals) b2 ∙ ap (λ (x : Building). x.lists.signals) b1 ∙ ap (λ (x : Building). x.lists.signals ++ ss) b0 in
     let trans : c.add_arcs.new.builder.lists.trans ≡ g.trans =
-        ap (λ (x : Building). x.lists.trans) b4 ∙ ap (λ (x : Building). x.lists.trans) b3 ∙ ap (λ (x : Building). x.lists.trans) b2 ∙ ap (λ (x : Building). x.lists.trans ++ ts) b1 ∙ ap (λ (x : Building). x.lists.trans ++ ts) b0 ∙ c.as_slice-2.ensures.keys ∙ parts.trans in
+    ap (λ (x : Building). x.lists.trans) b4 ∙ ap (λ (x : Building). x.lists.trans) b3 ∙ ap (λ (x : Building). x.lists.trans) b2 ∙ ap (λ (x : Building). x.lists.trans ++ ts) b1 ∙ ap (λ (x : Building). x.lists.trans ++ ts) b0 ∙ c.as_slice-2.ensures.keys ∙ parts.trans in
     let tokens : c.add_arcs.new.builder.lists.tokens ≡ map f g.places =
-        ap (λ (x : Building). x.lists.tokens) b4 ∙ ap (λ (x : Building). x.lists.tokens) b3 ∙ ap (λ (x : Building). x.lists.tokens ++ ks) b2 ∙ ap (λ (x : Building). x.lists.tokens ++ ks) b1 ∙ ap (λ (x : Building). x.lists.tokens ++ ks) b0
-        ∙ ap (map f) (ap (map shown_place) c.as_slice-3.ensures.keys ∙ parts.places) in
+    ap (λ (x : Building). x.lists.tokens) b4 ∙ ap (λ (x : Building). x.lists.tokens) b3 ∙ ap (λ (x : Building). x.lists.tokens ++ ks) b2 ∙ ap (λ (x : Building). x.lists.tokens ++ ks) b1 ∙ ap (λ (x : Building). x.lists.tokens ++ ks) b0
+    ∙ ap (map f) (ap (map shown_place) c.as_slice-3.ensures.keys ∙ parts.places) in
     let linked : c.add_arcs.new.builder.lists.arcs ≡ arcs g.trans g.places g.pairs =
-        ap (λ (x : Building). x.lists.arcs) b4 ∙ ap (λ (x : Building). x.lists.arcs ++ linked_arcs) b3 ∙ ap (λ (x : Building). x.lists.arcs ++ linked_arcs) b2 ∙ ap (λ (x : Building). x.lists.arcs ++ linked_arcs) b1 ∙ ap (λ (x : Building). x.lists.arcs ++ linked_arcs) b0
-        ∙ (λ j. arcs (parts.trans j) (parts.places j) (parts.pairs j)) in
+    ap (λ (x : Building). x.lists.arcs) b4 ∙ ap (λ (x : Building). x.lists.arcs ++ linked_arcs) b3 ∙ ap (λ (x : Building). x.lists.arcs ++ linked_arcs) b2 ∙ ap (λ (x : Building). x.lists.arcs ++ linked_arcs) b1 ∙ ap (λ (x : Building). x.lists.arcs ++ linked_arcs) b0
+    ∙ (λ j. arcs (parts.trans j) (parts.places j) (parts.pairs j)) in
     let names : c.in_ok-names.names ≡ map (place_name g.trans) g.places =
-        c.in_ok-names.ensures ∙ (λ j. map (place_name (parts.trans j)) ((ap (map shown_place) c.as_slice.ensures.keys ∙ parts.places) j)) in
+    c.in_ok-names.ensures ∙ (λ j. map (place_name (parts.trans j)) ((ap (map shown_place) c.as_slice.ensures.keys ∙ parts.places) j)) in
     let built : IsBuilt ss g (map f g.places) (record { net = n; place_names = c.in_ok-names.names }) = record {
       signals_are = c.in_ok-net.ensures.signals ∙ signals;
       trans_are = c.in_ok-net.ensures.trans ∙ trans;
       tokens_are = c.in_ok-net.ensures.tokens ∙ tokens;
       arcs_are = subst (λ xs. IsPermutation xs n.arcs) linked c.in_ok-net.ensures.arcs;
       is_net = c.in_ok-net.ensures.net;
-      names_are = names } in
+      names_are = names;
+    } in
     let limits : c.add_arcs.new.builder.limits ≡ c.args.limits.now =
-        ap (λ (x : Building). x.limits) b4 ∙ ap (λ (x : Building). x.limits) b3 ∙ ap (λ (x : Building). x.limits) b2 ∙ ap (λ (x : Building). x.limits) b1 ∙ ap (λ (x : Building). x.limits) b0 in
+    ap (λ (x : Building). x.limits) b4 ∙ ap (λ (x : Building). x.limits) b3 ∙ ap (λ (x : Building). x.limits) b2 ∙ ap (λ (x : Building). x.limits) b1 ∙ ap (λ (x : Building). x.limits) b0 in
     spec-from c.args.limits.now c.args.limits.now.weight ss g f n c.in_ok-names.names c.requires.limits c.requires.kept.sound (subst (λ (l : Limits). IsWithin l n) limits c.in_ok-net.ensures.within) built
 
 pub returns-clause-value : goal.returns-clause-value
@@ -76,22 +77,23 @@ returns-clause-value c =
     let linked_arcs = arcs c.into_parts-trans.result.trans.keys (map shown_place c.into_parts-trans.result.places.keys) (map shown_weighed c.into_parts-trans.result.weights.entries) in
     let n = c.in_ok-net.net in
     let signals : c.add_arcs.new.builder.lists.signals ≡ ss =
-        ap (λ (x : Building). x.lists.signals) b4 ∙ ap (λ (x : Building). x.lists.signals) b3 ∙ ap (λ (x : Building). x.lists.signals) b2 ∙ ap (λ (x : Building). x.lists.signals) b1 ∙ ap (λ (x : Building). x.lists.signals ++ ss) b0 in
+    ap (λ (x : Building). x.lists.signals) b4 ∙ ap (λ (x : Building). x.lists.signals) b3 ∙ ap (λ (x : Building). x.lists.signals) b2 ∙ ap (λ (x : Building). x.lists.signals) b1 ∙ ap (λ (x : Building). x.lists.signals ++ ss) b0 in
     let trans : c.add_arcs.new.builder.lists.trans ≡ g.trans =
-        ap (λ (x : Building). x.lists.trans) b4 ∙ ap (λ (x : Building). x.lists.trans) b3 ∙ ap (λ (x : Building). x.lists.trans) b2 ∙ ap (λ (x : Building). x.lists.trans ++ ts) b1 ∙ ap (λ (x : Building). x.lists.trans ++ ts) b0 ∙ c.as_slice-2.ensures.keys ∙ parts.trans in
+    ap (λ (x : Building). x.lists.trans) b4 ∙ ap (λ (x : Building). x.lists.trans) b3 ∙ ap (λ (x : Building). x.lists.trans) b2 ∙ ap (λ (x : Building). x.lists.trans ++ ts) b1 ∙ ap (λ (x : Building). x.lists.trans ++ ts) b0 ∙ c.as_slice-2.ensures.keys ∙ parts.trans in
     let tokens : c.add_arcs.new.builder.lists.tokens ≡ map f g.places =
-        ap (λ (x : Building). x.lists.tokens) b4 ∙ ap (λ (x : Building). x.lists.tokens) b3 ∙ ap (λ (x : Building). x.lists.tokens ++ ks) b2 ∙ ap (λ (x : Building). x.lists.tokens ++ ks) b1 ∙ ap (λ (x : Building). x.lists.tokens ++ ks) b0
-        ∙ ap (map f) (ap (map shown_place) c.as_slice-3.ensures.keys ∙ parts.places) in
+    ap (λ (x : Building). x.lists.tokens) b4 ∙ ap (λ (x : Building). x.lists.tokens) b3 ∙ ap (λ (x : Building). x.lists.tokens ++ ks) b2 ∙ ap (λ (x : Building). x.lists.tokens ++ ks) b1 ∙ ap (λ (x : Building). x.lists.tokens ++ ks) b0
+    ∙ ap (map f) (ap (map shown_place) c.as_slice-3.ensures.keys ∙ parts.places) in
     let linked : c.add_arcs.new.builder.lists.arcs ≡ arcs g.trans g.places g.pairs =
-        ap (λ (x : Building). x.lists.arcs) b4 ∙ ap (λ (x : Building). x.lists.arcs ++ linked_arcs) b3 ∙ ap (λ (x : Building). x.lists.arcs ++ linked_arcs) b2 ∙ ap (λ (x : Building). x.lists.arcs ++ linked_arcs) b1 ∙ ap (λ (x : Building). x.lists.arcs ++ linked_arcs) b0
-        ∙ (λ j. arcs (parts.trans j) (parts.places j) (parts.pairs j)) in
+    ap (λ (x : Building). x.lists.arcs) b4 ∙ ap (λ (x : Building). x.lists.arcs ++ linked_arcs) b3 ∙ ap (λ (x : Building). x.lists.arcs ++ linked_arcs) b2 ∙ ap (λ (x : Building). x.lists.arcs ++ linked_arcs) b1 ∙ ap (λ (x : Building). x.lists.arcs ++ linked_arcs) b0
+    ∙ (λ j. arcs (parts.trans j) (parts.places j) (parts.pairs j)) in
     let names : c.in_ok-names.names ≡ map (place_name g.trans) g.places =
-        c.in_ok-names.ensures ∙ (λ j. map (place_name (parts.trans j)) ((ap (map shown_place) c.as_slice.ensures.keys ∙ parts.places) j)) in
+    c.in_ok-names.ensures ∙ (λ j. map (place_name (parts.trans j)) ((ap (map shown_place) c.as_slice.ensures.keys ∙ parts.places) j)) in
     let built : IsBuilt ss g (map f g.places) (record { net = n; place_names = c.in_ok-names.names }) = record {
       signals_are = c.in_ok-net.ensures.signals ∙ signals;
       trans_are = c.in_ok-net.ensures.trans ∙ trans;
       tokens_are = c.in_ok-net.ensures.tokens ∙ tokens;
       arcs_are = subst (λ xs. IsPermutation xs n.arcs) linked c.in_ok-net.ensures.arcs;
       is_net = c.in_ok-net.ensures.net;
-      names_are = names } in
+      names_are = names;
+    } in
     subst (λ (s : SpecLists). IsBuilt ss g (map f g.places) s) (sym c.new.ensures) built

@@ -1,4 +1,4 @@
-use Rattle.std.proofs.Common.{◌≡◌, ◌∙◌, ap, sym, refl}
+use Rattle.std.proofs.Common.{◌∙◌, ap, sym}
 use Rattle.astg_read.specs.Header.{without_dummies}
 use Rattle.astg_read.specs.Markings.{entries_of}
 use Rattle.astg_read.specs.Marks.{tokens_at}

@@ -1,4 +1,4 @@
-use Rattle.std.proofs.Common.{ap, sym, ◌∙◌, take, arith}
+use Rattle.std.proofs.Common.{ap, sym, ◌∙◌, take}
 use Rattle.astg_read.specs.Shown.{shown_words}
 use Rattle.astg_read.proofs.CloseLemmas.{before-take, words-take}
 use Rattle.astg_read.proofs.marking.before_close.Goals as goal

@@ -12,4 +12,4 @@ returns-else-not-has_place c =
     c.contains.ensures ∙ place-among c.args.named.now.keys c.in-Some.place
     ∙ sym (ap (λ b. not b || list_any (same_place (shown_place c.in-Some.place)) named) (sym c.has_place.ensures ∙ c.if-not-has_place.false))
     ∙ ap (λ o. not (option_map_or (λ p. list_any (same_place p) c.args.graph.now.places) o false) || option_map_or (λ p. list_any (same_place p) named) o false)
-      (ap (option_map shown_place) (sym c.in-Some.is) ∙ c.named_place.ensures)
+    (ap (option_map shown_place) (sym c.in-Some.is) ∙ c.named_place.ensures)

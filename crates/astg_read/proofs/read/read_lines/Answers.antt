@@ -29,7 +29,7 @@ returns-then-ends-clause-gives c =
     let ends : ends_text k (texts c.in-Ok-Some.line.words) ≡ true = ap (λ ws. ends_text k (texts ws)) (sym c.as_slice.ensures) ∙ sym c.ends_text-ends.ensures ∙ c.if-ends.true in
     reading-within limits c.args.text.now c.requires.within
     ∙ step-end limits c.args.text.now c.loop-line.lines c.next_line.new.self c.in-Ok-Some.line.number c.in-Ok-Some.line.words k c.loop-line.invariant.reached (subst (λ o. IfSome o (λ (line : Line). Advances c.loop-line.lines c.next_line.new.self line.number line.words)) c.in-Ok-Some.field-0-is c.in-Ok-Some.ensures.line)
-        (ap (λ ws. verdict limits k (texts ws)) (sym c.as_slice-in-Ok-Some.ensures) ∙ c.in-Ok.ensures.0) ends
+    (ap (λ ws. verdict limits k (texts ws)) (sym c.as_slice-in-Ok-Some.ensures) ∙ c.in-Ok.ensures.0) ends
     ∙ ap (λ q. Ok (meaning_of q)) (sym (c.in-Ok.ensures.1 ∙ ap (λ ws. taken k (texts ws)) c.as_slice-in-Ok-Some.ensures ∙ ap (λ b. cond b k (after_row k (texts c.in-Ok-Some.line.words))) ends))
 
 pub returns-then-ends-clause-kept : goal.returns-then-ends-clause-kept
@@ -49,8 +49,10 @@ loop-line-init c =
         rows = [];
         known_is = c.requires.start;
         number_is = ap (λ (l : Lexing). l.number) c.lines-lines.ensures;
-        same = ap (λ l. reading_after false limits (line_ends c.args.text.now + 1) [] (map seen_line (lines_left l))) c.lines-lines.ensures };
-      kept = subst (λ (q : Known). IsKept limits q) (sym c.requires.start) (kept-nothing limits) }
+        same = ap (λ l. reading_after false limits (line_ends c.args.text.now + 1) [] (map seen_line (lines_left l))) c.lines-lines.ensures;
+      };
+      kept = subst (λ (q : Known). IsKept limits q) (sym c.requires.start) (kept-nothing limits);
+    }
 
 pub returns-in-Err-Broken-clause-gives : goal.returns-in-Err-Broken-clause-gives
 returns-in-Err-Broken-clause-gives c =
@@ -58,7 +60,7 @@ returns-in-Err-Broken-clause-gives c =
     let broken : verdict limits k (texts c.as_slice-in-Ok-Some.result.now) ≡ Some c.in-Err-Broken.rule = subst (λ e. Takes limits k (texts c.as_slice-in-Ok-Some.result.now) (Err e) (known_of c.take_line.new.self)) c.in-Err-Broken.field-0-is c.in-Err-Broken.ensures in
     reading-within limits c.args.text.now c.requires.within
     ∙ step-broken limits c.args.text.now c.loop-line.lines c.next_line.new.self c.in-Ok-Some.line.number c.in-Ok-Some.line.words k c.loop-line.invariant.reached (subst (λ o. IfSome o (λ (line : Line). Advances c.loop-line.lines c.next_line.new.self line.number line.words)) c.in-Ok-Some.field-0-is c.in-Ok-Some.ensures.line)
-        c.in-Err-Broken.rule (ap (λ ws. verdict limits k (texts ws)) (sym c.as_slice-in-Ok-Some.ensures) ∙ broken)
+    c.in-Err-Broken.rule (ap (λ ws. verdict limits k (texts ws)) (sym c.as_slice-in-Ok-Some.ensures) ∙ broken)
     ∙ ap (λ r. Err (record { rule = r; line = c.in-Ok-Some.line.number })) (sym c.in-Err-Broken.rule-is)
 
 pub loop-line-preserved : goal.loop-line-preserved
@@ -73,14 +75,16 @@ loop-line-preserved c =
     let Q : Known → Type 0 = λ q. IsKept limits q in
     record {
       reached = subst P (sym (took ∙ ap (λ b. cond b k (after_row k row)) goes)) more;
-      kept = subst Q (sym took) (kept-after limits k row c.loop-line.invariant.kept none) }
+      kept = subst Q (sym took) (kept-after limits k row c.loop-line.invariant.kept none);
+    }
 
 pub returns-in-Err-BadByte-clause-gives : goal.returns-in-Err-BadByte-clause-gives
 returns-in-Err-BadByte-clause-gives c =
     let limits = c.args.limits.now in let k = known_of c.loop-line.reader in
     elim c.in-Err-BadByte.ensures.only [
-      inl q ↦ let bad = c.in-Err-BadByte.ensures.bad_byte.0 (ap Err q) in
-        reading-within limits c.args.text.now c.requires.within
-        ∙ step-bad limits c.args.text.now c.loop-line.lines k c.loop-line.invariant.reached bad.0 bad.1
-        ∙ ap (λ n. Err (record { rule = BadByte; line = n })) (ap line_of (sym q ∙ c.in-Err-BadByte.field-0-is) ∙ sym c.in-Err-BadByte.line-is)
-    | inr n ↦ absurd (subst is_no_byte (sym n ∙ c.in-Err-BadByte.field-0-is) tt) ]
+      | inl q ↦ let bad = c.in-Err-BadByte.ensures.bad_byte.0 (ap Err q) in
+          reading-within limits c.args.text.now c.requires.within
+          ∙ step-bad limits c.args.text.now c.loop-line.lines k c.loop-line.invariant.reached bad.0 bad.1
+          ∙ ap (λ n. Err (record { rule = BadByte; line = n })) (ap line_of (sym q ∙ c.in-Err-BadByte.field-0-is) ∙ sym c.in-Err-BadByte.line-is)
+      | inr n ↦ absurd (subst is_no_byte (sym n ∙ c.in-Err-BadByte.field-0-is) tt)
+    ]

@@ -7,5 +7,5 @@ use Rattle.astg_read.proofs.reader.add_names.Given as goal
 abbrev pub invariant-loop-name : goal.invariant-loop-name
 invariant-loop-name l = record {
   again : stands_again same_name l.signals (signals_of l.kind (texts (drop l.name-index l.names))) ≡ stands_again same_name l.initial.signals (signals_of l.kind (texts l.names));
-  so_far : l.signals ++ signals_of l.kind (texts (drop l.name-index l.names)) ≡ l.initial.signals ++ signals_of l.kind (texts l.names)
+  so_far : l.signals ++ signals_of l.kind (texts (drop l.name-index l.names)) ≡ l.initial.signals ++ signals_of l.kind (texts l.names);
 }

@@ -1,4 +1,4 @@
-use Rattle.std.proofs.Common.{◌≡◌, ◌∙◌, arith}
+use Rattle.std.proofs.Common.{◌∙◌, arith}
 use Rattle.astg_read.proofs.TargetLemmas.{targets-preserved}
 use Rattle.astg_read.proofs.targets.targets_of.Goals as goal
 

@@ -1,4 +1,4 @@
-use Rattle.std.proofs.Common.{◌≡◌, map, ap, sym, ◌∙◌}
+use Rattle.std.proofs.Common.{map, ap, sym, ◌∙◌}
 use Rattle.astg_read.specs.declared.graph.Place.TheVariants as read_place
 use Rattle.astg_read.specs.Nodes.{Trans}
 use Rattle.astg_read.specs.Known.{GraphLists}

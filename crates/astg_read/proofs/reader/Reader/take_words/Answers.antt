@@ -1,6 +1,5 @@
-use Rattle.std.proofs.Common.{◌≡◌, ◌∙◌, [], ◌∷◌, ap, sym, subst, refl, false, Some}
+use Rattle.std.proofs.Common.{◌∷◌, sym, subst, refl}
 use Rattle.std.specs.Prelude.{codes}
-use Rattle.astg_read.specs.Rows.{Row, begins}
 use Rattle.astg_read.specs.Shown.{texts}
 use Rattle.astg_read.specs.Taking.{Takes, known_of, directive}
 use Rattle.astg_read.proofs.Takings.{says-counted, titles-no_dummies, kinds-no_dummies, nodes-no_dummies, verdict-unknown}
@@ -19,25 +18,25 @@ pub returns-in-Names : goal.returns-in-Names
 returns-in-Names c =
     let k = known_of c.args.self.now in let new = known_of c.take_names-said.new.self in let rest = texts c.args.rest.now in
     subst (λ w. Takes c.args.limits.now k (w ∷ rest) c.count-in-Names.result new) (sym c.in-Names.ensures)
-      (says-counted c.args.limits.now k new (directive c.in-Names.kind ∷ rest) c.take_names-said.result c.count-in-Names.result c.requires.outside (kinds-no_dummies c.in-Names.kind (texts c.args.rest.now)) c.take_names-said.ensures c.count-in-Names.ensures)
+    (says-counted c.args.limits.now k new (directive c.in-Names.kind ∷ rest) c.take_names-said.result c.count-in-Names.result c.requires.outside (kinds-no_dummies c.in-Names.kind (texts c.args.rest.now)) c.take_names-said.ensures c.count-in-Names.ensures)
 
 pub returns-in-Graph : goal.returns-in-Graph
 returns-in-Graph c =
     let k = known_of c.args.self.now in let new = known_of c.take_graph-said.new.self in let rest = texts c.args.rest.now in
     subst (λ w. Takes c.args.limits.now k (w ∷ rest) c.count-in-Graph.result new) (sym c.in-Graph.ensures)
-      (says-counted c.args.limits.now k new (codes ".graph" ∷ rest) c.take_graph-said.result c.count-in-Graph.result c.requires.outside refl c.take_graph-said.ensures c.count-in-Graph.ensures)
+    (says-counted c.args.limits.now k new (codes ".graph" ∷ rest) c.take_graph-said.result c.count-in-Graph.result c.requires.outside refl c.take_graph-said.ensures c.count-in-Graph.ensures)
 
 pub returns-in-Marking : goal.returns-in-Marking
 returns-in-Marking c =
     let k = known_of c.args.self.now in let new = known_of c.take_marking-said.new.self in let rest = texts c.args.rest.now in
     subst (λ w. Takes c.args.limits.now k (w ∷ rest) c.count-in-Marking.result new) (sym c.in-Marking.ensures)
-      (says-counted c.args.limits.now k new (codes ".marking" ∷ rest) c.take_marking-said.result c.count-in-Marking.result c.requires.outside refl c.take_marking-said.ensures c.count-in-Marking.ensures)
+    (says-counted c.args.limits.now k new (codes ".marking" ∷ rest) c.take_marking-said.result c.count-in-Marking.result c.requires.outside refl c.take_marking-said.ensures c.count-in-Marking.ensures)
 
 pub returns-in-End : goal.returns-in-End
 returns-in-End c =
     let k = known_of c.args.self.now in let new = known_of c.take_end-said.new.self in let rest = texts c.args.rest.now in
     subst (λ w. Takes c.args.limits.now k (w ∷ rest) c.count-in-End.result new) (sym c.in-End.ensures)
-      (says-counted c.args.limits.now k new (codes ".end" ∷ rest) c.take_end-said.result c.count-in-End.result c.requires.outside refl c.take_end-said.ensures c.count-in-End.ensures)
+    (says-counted c.args.limits.now k new (codes ".end" ∷ rest) c.take_end-said.result c.count-in-End.result c.requires.outside refl c.take_end-said.ensures c.count-in-End.ensures)
 
 pub returns-in-Unknown : goal.returns-in-Unknown
 returns-in-Unknown c = verdict-unknown c.args.limits.now (known_of c.args.self.now) (c.args.first.now ∷ texts c.args.rest.now) c.requires.outside (c.in-Unknown.ensures (texts c.args.rest.now))

@@ -1,7 +1,6 @@
-use Rattle.std.proofs.Common.{◌≡◌, [], ◌∷◌, ◌++◌, List, true, false, not, None, Some, ℕ, map, ap, sym, ◌∙◌}
+use Rattle.std.proofs.Common.{[], ◌∷◌, ◌++◌, List, not, map, ap, sym, ◌∙◌}
 use Rattle.stg_net.specs.declared.signal.Signal.{Signal}
 use Rattle.astg_read.specs.Header.{same_name}
-use Rattle.astg_read.specs.Lists.{added}
 use Rattle.astg_read.specs.Shown.{shown_signal}
 use Rattle.astg_read.proofs.Keyed.{entries-new, added-found, added-new}
 use Rattle.astg_read.proofs.SignalLemmas.{found-signal, missing-signal}
@@ -14,7 +13,7 @@ returns-in-Some-clause-fresh c =
 pub returns-in-Some-clause-ok : goal.returns-in-Some-clause-ok
 returns-in-Some-clause-ok c =
     added-found same_name c.args.self.now (record { name = c.args.name.now; kind = c.args.kind })
-      (found-signal c.args.name.now c.args.kind c.self.inside.kinds.entries c.args.self.now c.in-Some.field-0 c.self.view_is c.in-Some.ensures.index)
+    (found-signal c.args.name.now c.args.kind c.self.inside.kinds.entries c.args.self.now c.in-Some.field-0 c.self.view_is c.in-Some.ensures.index)
 
 pub returns-in_ok-insert-in-None-clause-fresh : goal.returns-in_ok-insert-in-None-clause-fresh
 returns-in_ok-insert-in-None-clause-fresh c =
@@ -26,4 +25,4 @@ returns-in_ok-insert-in-None-clause-ok c =
     ∙ entries-new _ shown_signal c.self.inside.kinds c.args.name c.args.kind (sym c.in-None.ensures.index)
     ∙ ap (λ (ss : List Signal). ss ++ record { name = c.args.name.now; kind = c.args.kind } ∷ []) c.self.view_is
     ∙ added-new same_name c.args.self.now (record { name = c.args.name.now; kind = c.args.kind })
-      (missing-signal c.args.name.now c.args.kind c.self.inside.kinds.entries c.args.self.now c.self.view_is c.in-None.ensures.index)
+    (missing-signal c.args.name.now c.args.kind c.self.inside.kinds.entries c.args.self.now c.self.view_is c.in-None.ensures.index)
