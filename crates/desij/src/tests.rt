@@ -9,7 +9,7 @@ use std::alloc::Global;
 use std::fs;
 use std::process::Abort;
 use std::test::Fail;
-use stg_net::{Nums, Seq};
+use stg_net::{Nums, Seq, Text};
 
 const TWO: &[u8] = b".inputs r1 r2
 .outputs a1 a2
@@ -84,6 +84,15 @@ p6 c-
 p7 a+
 p8 b+
 .marking { p7 p8 }
+.end
+";
+
+// The text on which the rules of the profile are shown.
+const BASE: &[u8] = b".inputs a
+.outputs x
+.graph
+a+ x+
+.marking { }
 .end
 ";
 
@@ -321,6 +330,35 @@ fn refuses_a_text_by_its_first_bad_line(rt: HostRuntime) -> Result<(), Fail> {
         let ran = run_over(rt.alloc(), &["decompose", "spec.g"], text, (0, 0, 0), 100)?;
         assert_ran(&rt, row, &ran, Status::Refused, 0, printed);
     }
+    Ok(())
+}
+
+// A text of that many bytes `#` behind these.
+fn with_comment(alloc: Global, front: &[u8], len: usize) -> Result<Text, NoMemory> {
+    let mut text = Seq::from_slice(alloc, front)?;
+    for _byte in front.len()..len {
+        text.push(b'#')?;
+    }
+    Ok(text)
+}
+
+#[test]
+fn reads_up_to_the_limit_of_bytes(rt: HostRuntime) -> Result<(), Fail> {
+    let printed = b"part 1 own 1 inputs 1 transitions 2 places 1 restored 0\ndone 1\n";
+    let longest = with_comment(rt.alloc(), BASE, 1_048_576)?;
+    let named: &[&str] = &["decompose", "spec.g"];
+    let ran = run_over(rt.alloc(), named, longest.as_slice(), (0, 0, 0), 100)?;
+    assert_ran(&rt, 0, &ran, Status::Done, 1, printed);
+    let longer = with_comment(rt.alloc(), b"", 1_048_577)?;
+    let ran = run_over(rt.alloc(), named, longer.as_slice(), (0, 0, 0), 100)?;
+    assert_ran(
+        &rt,
+        1,
+        &ran,
+        Status::Refused,
+        0,
+        b"refused TooLong line 0\n",
+    );
     Ok(())
 }
 

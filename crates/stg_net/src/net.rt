@@ -32,12 +32,8 @@ impl Model for Net {
 }
 
 impl Net {
-    pub(crate) fn of(
-        signals: Seq<Signal>,
-        trans: Seq<TransName>,
-        tokens: Nums,
-        arcs: Seq<NetArc>,
-    ) -> Self
+    /// Makes a net of its four lists.
+    pub fn of(signals: Seq<Signal>, trans: Seq<TransName>, tokens: Nums, arcs: Seq<NetArc>) -> Self
         requires { IsNet (record { signals = signals; trans = trans; tokens = tokens; arcs = arcs }) }
         ensures { result ≡ record { signals = signals; trans = trans; tokens = tokens; arcs = arcs } }
     {
