@@ -30,3 +30,5 @@ pub mod Pairing
 pub mod Rounds
 pub mod Replaced
 pub mod Counted
+pub mod Packing
+pub mod Compacting

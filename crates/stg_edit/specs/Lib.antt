@@ -20,5 +20,7 @@ pub mod Hidden
 pub mod Counted
 pub mod Replacing
 pub mod Editing
+pub mod Compacted
+pub mod Packing
 pub mod Worn
 pub mod View

@@ -1,5 +1,5 @@
 -- The view of an editor, and what is true of its fields.
-use Rattle.std.specs.Prelude.{◌≡◌, ◌≢◌, ◌≤◌, ◌<◌, ◌-◌, ◌+◌, ◌==◌, ℕ, false, List, map, length, All, AllPairs, slice_index_or, vec_capacity}
+use Rattle.std.specs.Prelude.{◌≡◌, ◌≢◌, ◌≤◌, ◌<◌, ◌-◌, ◌+◌, ◌^◌, ◌==◌, ℕ, false, List, map, length, All, AllPairs, slice_index_or, vec_capacity}
 use Rattle.std.specs.List.{list_any}
 use Rattle.stg_net.specs.declared.signal.Signal.{Signal}
 use Rattle.stg_net.specs.declared.trans.TransName.{TransName}
@@ -39,5 +39,7 @@ pub record IsEditor (e : Inside) : Type 0 where
   pub in_range : All (λ (t : TransName). t.signal < length e.signals) e.names
   pub known_there : All (λ s. s < length e.signals) e.known
   pub names_differ : AllPairs (λ (s t : Signal). s.name ≢ t.name) e.signals
+  pub trans_differ : AllPairs (λ (s t : TransName). s ≢ t) e.names
+  pub signals_fit : length e.signals < 2 ^ 32
   pub shown : (s : ℕ) → slice_index_or e.shown.items s false ≡ list_any (λ k. k == s) e.known
   pub shown_long : length e.shown.items ≡ length e.signals

@@ -355,6 +355,13 @@ impl Arena {
         self.places.len() as u32
     }
 
+    /// How many transitions there are, also of those that went.
+    pub fn count_trans(&self) -> u32
+        ensures { result ≡ length self.now.trans }
+    {
+        self.trans.len() as u32
+    }
+
     /// What went since the moment comes back.
     pub fn show_to(&mut self, moment: u32)
         requires range { moment ≤ length self.old.log }

@@ -3,10 +3,12 @@
 ghost use Rattle.std.specs.Prelude.{◌≡◌, ◌==◌, ◌<◌, ◌≤◌, ◌↔◌, ◌+◌, ◌-◌, ◌^◌, ◌++◌, ◌∷◌, [], ℕ, Some, false, length, min, All, IfOk, OnOk, OnErr, IsTrue, slice_index_or};
 ghost use Rattle.std.specs.List.{list_any};
 ghost use Rattle.stg_net.specs.declared.limits.TheConstants.Limits.{PART};
-ghost use Rattle.stg_net.specs.Net.{IsWithin};
+ghost use Rattle.stg_net.specs.Net.{IsWithin, signal_at};
 ghost use Rattle.stg_net.specs.Initial.{initial};
 ghost use Rattle.stg_net.specs.Contraction.{without_place, without_trans, contracted, pairs_round};
-ghost use Rattle.stg_net.specs.Graph.{IsPlace, IsTrans, IsDummy, tokens_at, full_name_at};
+ghost use Rattle.stg_net.specs.Graph.{IsPlace, IsTrans, IsDummy, tokens_at, full_name_at, is_among};
+ghost use Rattle.stg_edit.specs.Compacted.{IsNetOf};
+ghost use Rattle.stg_edit.specs.Packing.{IsFit};
 ghost use Rattle.stg_edit.specs.Drafting.{present};
 ghost use Rattle.stg_edit.specs.Walks.{taken_places, given_places, taking_trans, giving_trans};
 ghost use Rattle.stg_edit.specs.Counted.{live_places, count_arcs};
@@ -16,6 +18,9 @@ ghost use Rattle.stg_edit.specs.Replacing.{new_places, new_arcs, IsSmallPair};
 
 use crate::arena::Arena;
 use crate::build::build;
+use crate::compact::{
+    list_arcs, list_names, list_places, list_signals, list_tokens, list_trans, show_signals,
+};
 use crate::join::join_round;
 use crate::round::hide_round;
 use crate::walk::Walk;
@@ -224,6 +229,36 @@ impl Editor {
         self.arena.count_places()
     }
 
+    /// The number of the net's transitions.
+    pub(crate) fn count_trans(&self) -> u32
+        ensures { result ≡ length self.now.now.trans }
+    {
+        self.arena.count_trans()
+    }
+
+    /// The signals of the net.
+    pub(crate) fn signals(&self) -> &[Signal]
+        ensures { result.now ≡ self.now.signals }
+    {
+        self.signals.as_slice()
+    }
+
+    /// Whether the signal of that number is known.
+    pub(crate) fn is_known(&self, s: u32) -> bool
+        requires { s < length self.now.signals }
+        ensures { result ≡ is_among self.now.now.known (signal_at self.now.signals s).name }
+    {
+        self.shown[s as usize]
+    }
+
+    /// Hands out what is true of each editor.
+    pub(crate) fn sound(&self)
+        ensures { IsFit self.now }
+    {
+        self.arena.sound();
+        let _names = &self.names;
+    }
+
     /// The number of the net's places.
     pub fn first_places(&self) -> u32
         ensures { result ≡ self.now.now.first_places }
@@ -306,6 +341,30 @@ impl Editor {
         self.arena.pop_to(mark.cells);
         self.arena.sound();
         self.undone = self.undone.saturating_add(1);
+    }
+
+    /// Makes the net of the draft: the known signals, where the own ones alone keep their kinds and
+    /// the others are inputs, and the live transitions and places.
+    pub fn net(&self, alloc: Global, own: &Nums) -> Result<Net, NoMemory>
+        requires { (t : ℕ) → IsDummy self.now.now t → ⊥ }
+        ensures value { IfOk result (λ n. IsNetOf self.now own.now n) }
+        ensures arcs { IfOk result (λ n. length n.arcs ≡ count_arcs self.now.now) }
+    {
+        self.sound();
+        let kept = list_signals(alloc, self)?;
+        let places = list_places(alloc, self)?;
+        let trans = list_trans(alloc, self)?;
+        let signals = show_signals(alloc, self.signals(), own.as_slice(), kept.as_slice())?;
+        let names = list_names(
+            alloc,
+            self,
+            signals.as_slice(),
+            kept.as_slice(),
+            trans.as_slice(),
+        )?;
+        let tokens = list_tokens(alloc, self, places.as_slice())?;
+        let arcs = list_arcs(alloc, self, places.as_slice(), trans.as_slice())?;
+        Ok(Net::of(signals, names, tokens, arcs))
     }
 
     /// Ends the editor.

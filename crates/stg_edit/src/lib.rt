@@ -3,6 +3,7 @@
 
 mod arena;
 mod build;
+mod compact;
 mod editor;
 mod join;
 mod links;

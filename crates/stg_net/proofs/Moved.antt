@@ -23,7 +23,7 @@ use Rattle.stg_net.proofs.Orders.{IsOrder, signal_order-IsOrder, place_order-IsO
 use Rattle.stg_net.proofs.Pairs.{AllPairs-permutation}
 
 module _ {X : Type 0} (R : X → X → Type 0) where
-  AllPairs-append : (xs ys : List X) → AllPairs R xs → AllPairs R ys → ((i j : ℕ) (d : X) → i < length xs → j < length ys → R (get_or xs i d) (get_or ys j d)) → AllPairs R (xs ++ ys)
+  pub AllPairs-append : (xs ys : List X) → AllPairs R xs → AllPairs R ys → ((i j : ℕ) (d : X) → i < length xs → j < length ys → R (get_or xs i d) (get_or ys j d)) → AllPairs R (xs ++ ys)
   AllPairs-append xs ys first second across i j d lt below =
       let long = length-append xs ys in
       elim (cases_lt j (length xs)) [

@@ -38,6 +38,7 @@ invariant_of-result c =
     let R : List TransName → List Signal → Type 0 = λ names signals. All (λ (t : TransName). t.signal < length signals) names in
     let K : List ℕ → List Signal → Type 0 = λ known signals. All (λ s. s < length signals) known in
     let D : List Signal → Type 0 = λ signals. AllPairs (λ (s t : Signal). s.name ≢ t.name) signals in
+    let E : List TransName → Type 0 = λ names. AllPairs (λ (s t : TransName). s ≢ t) names in
     record {
       marked = subst P (sym c.new.ensures.items) (marked_first l c.sound.ensures.timed c.sound.ensures.laid);
       room = omega arith;
@@ -48,6 +49,8 @@ invariant_of-result c =
       in_range = let Q : Signals → Type 0 = λ x. R x.names x.signals in subst Q (λ i. record { signals = sym signals i; names = sym names i; known = sym known i }) net.trans_signals;
       known_there = let Q : Signals → Type 0 = λ x. K x.known x.signals in subst Q (λ i. record { signals = sym signals i; names = sym names i; known = sym known i }) c.requires.in_range;
       names_differ = subst D (sym signals) net.signal_names;
+      trans_differ = subst E (sym names) net.trans_names;
+      signals_fit = rw signals net.signals_fit;
       shown = λ s. c.in_ok-mark_known.ensures.shown s ∙ ap (list_any (λ k. k == s)) (c.as_slice-2.ensures ∙ sym known);
       shown_long = c.in_ok-mark_known.ensures.len ∙ ap length (c.signals-2.ensures.signals ∙ sym signals);
     }

@@ -49,6 +49,8 @@ invariant_of-self c =
       in_range = c.self.invariant.in_range;
       known_there = c.self.invariant.known_there;
       names_differ = c.self.invariant.names_differ;
+      trans_differ = c.self.invariant.trans_differ;
+      signals_fit = c.self.invariant.signals_fit;
       shown = c.self.invariant.shown;
       shown_long = c.self.invariant.shown_long;
     }

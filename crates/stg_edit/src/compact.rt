@@ -1,0 +1,255 @@
+//! The lists of which the net of a draft is made.
+
+ghost use Rattle.std.specs.Prelude.{◌≡◌, ◌<◌, ◌^◌, ◌++◌, ℕ, true, Some, All, map, length, is_some, slice_index, IfOk, OnOk};
+ghost use Rattle.stg_net.specs.declared.trans.TransName.{TransName as ThisName};
+ghost use Rattle.stg_net.specs.Net.{signal_at};
+ghost use Rattle.stg_net.specs.Component.{is_one_of};
+ghost use Rattle.stg_net.specs.Ordered.{numbers_where, new_number};
+ghost use Rattle.stg_net.specs.Graph.{IsPlace, IsTrans, is_among, place_at, full_name_at, tokens_at, takes, gives, has_signal_of};
+ghost use Rattle.stg_edit.specs.Compacted.{signal_shown, known_signals};
+ghost use Rattle.stg_edit.specs.Editing.{name_in};
+ghost use Rattle.stg_edit.specs.Packing.{IsShownBy, weighted_arc, row_arcs, all_arcs};
+
+use crate::editor::Editor;
+use std::alloc::Global;
+use stg_net::{Kind, NetArc, NoMemory, Nums, Seq, Signal, TransName};
+
+fn has_place(editor: &Editor, p: u32) -> bool
+    ensures { result ≡ is_some (place_at editor.now.now p) }
+{
+    editor.is_place(p)
+}
+
+fn has_trans(editor: &Editor, t: u32) -> bool
+    ensures { result ≡ is_some (full_name_at editor.now.now t) }
+{
+    editor.is_trans(t)
+}
+
+/// The numbers of the known signals.
+pub fn list_signals(alloc: Global, editor: &Editor) -> Result<Nums, NoMemory>
+    requires { length editor.now.signals < 2 ^ 32 }
+    ensures { IfOk result (λ list. list ≡ numbers_where (λ s. is_among editor.now.now.known (signal_at editor.now.signals s).name) (length editor.now.signals)) }
+{
+    let mut list = Seq::new(alloc);
+    for s in 0..editor.signals().len() as u32 {
+        if editor.is_known(s) {
+            list.push(s)?;
+        }
+    }
+    Ok(list)
+}
+
+/// The numbers of the live places.
+pub fn list_places(alloc: Global, editor: &Editor) -> Result<Nums, NoMemory>
+    ensures { IfOk result (λ list. list ≡ numbers_where (λ p. is_some (place_at editor.now.now p)) (length editor.now.now.places)) }
+{
+    let mut list = Seq::new(alloc);
+    for p in 0..editor.next_place() {
+        if has_place(editor, p) {
+            list.push(p)?;
+        }
+    }
+    Ok(list)
+}
+
+/// The numbers of the live transitions.
+pub fn list_trans(alloc: Global, editor: &Editor) -> Result<Nums, NoMemory>
+    ensures { IfOk result (λ list. list ≡ numbers_where (λ t. is_some (full_name_at editor.now.now t)) (length editor.now.now.trans)) }
+{
+    let mut list = Seq::new(alloc);
+    for t in 0..editor.count_trans() {
+        if has_trans(editor, t) {
+            list.push(t)?;
+        }
+    }
+    Ok(list)
+}
+
+fn is_among_own(own: &[u32], s: u32) -> bool
+    ensures { result ≡ is_one_of own.now s }
+{
+    own.iter().any(|k| *k == s)
+}
+
+fn show_signal(alloc: Global, signals: &[Signal], own: &[u32], s: u32) -> Result<Signal, NoMemory>
+    requires { s < length signals.now }
+    ensures { IfOk result (λ x. x ≡ signal_shown signals.now own.now s) }
+{
+    let signal = &signals[s as usize];
+    let name = Seq::from_slice(alloc, signal.name.as_slice())?;
+    let kind = if is_among_own(own, s) {
+        signal.kind
+    } else {
+        Kind::Input
+    };
+    Ok(Signal { name, kind })
+}
+
+/// The signals of these numbers, where the own ones alone keep their kinds.
+pub fn show_signals(
+    alloc: Global,
+    signals: &[Signal],
+    own: &[u32],
+    kept: &[u32],
+) -> Result<Seq<Signal>, NoMemory>
+    requires { All (λ s. s < length signals.now) kept.now }
+    ensures { IfOk result (λ list. list ≡ map (signal_shown signals.now own.now) kept.now) }
+{
+    let mut list = Seq::new(alloc);
+    for s in kept {
+        list.push(show_signal(alloc, signals, own, *s)?)?;
+    }
+    Ok(list)
+}
+
+fn renumber(kept: &[u32], old: u32) -> usize
+    ensures { result ≡ new_number kept.now old }
+{
+    kept.iter().take_while(|k| **k != old).count()
+}
+
+/// The name of a live transition with the number that its signal has among those that are kept.
+fn rename(editor: &Editor, signals: &[Signal], kept: &[u32], t: u32) -> TransName
+    requires live { IsTrans editor.now.now t }
+    requires known { has_signal_of editor.now.now.known (full_name_at editor.now.now t) ≡ true }
+    requires kept { kept.now ≡ known_signals editor.now.signals editor.now.now }
+    requires shown { IsShownBy editor.now.signals kept.now signals.now }
+    requires fit { length signals.now < 2 ^ 32 }
+    ensures name { full_name_at editor.now.now t ≡ Some (name_in signals.now result) }
+    ensures signal { result.signal < length signals.now }
+{
+    let name = editor.name(t);
+    let signal = renumber(kept, name.signal) as u32;
+    TransName { signal, ..name }
+}
+
+/// The names of these transitions.
+pub fn list_names(
+    alloc: Global,
+    editor: &Editor,
+    signals: &[Signal],
+    kept: &[u32],
+    trans: &[u32],
+) -> Result<Seq<TransName>, NoMemory>
+    requires live { All (λ t. IsTrans editor.now.now t) trans.now }
+    requires known { All (λ t. has_signal_of editor.now.now.known (full_name_at editor.now.now t) ≡ true) trans.now }
+    requires kept { kept.now ≡ known_signals editor.now.signals editor.now.now }
+    requires shown { IsShownBy editor.now.signals kept.now signals.now }
+    requires fit { length signals.now < 2 ^ 32 }
+    ensures names { IfOk result (λ list. map (λ x. Some (name_in signals.now x)) list ≡ map (full_name_at editor.now.now) trans.now) }
+    ensures there { IfOk result (λ list. All (λ (x : ThisName). x.signal < length signals.now) list) }
+{
+    let mut list = Seq::new(alloc);
+    for t in trans {
+        list.push(rename(editor, signals, kept, *t))?;
+    }
+    Ok(list)
+}
+
+/// The tokens of these places.
+pub fn list_tokens(alloc: Global, editor: &Editor, places: &[u32]) -> Result<Nums, NoMemory>
+    requires { All (λ p. IsPlace editor.now.now p) places.now }
+    ensures { IfOk result (λ list. list ≡ map (tokens_at editor.now.now) places.now) }
+{
+    let mut list = Seq::new(alloc);
+    for p in places {
+        list.push(editor.tokens(*p))?;
+    }
+    Ok(list)
+}
+
+/// The weights of the arcs from a live place to each transition.
+fn list_taken(alloc: Global, editor: &Editor, p: u32) -> Result<Vec<u32>, NoMemory>
+    requires { IsPlace editor.now.now p }
+    ensures len { IfOk result (λ row. length row.items ≡ length editor.now.now.trans) }
+    ensures weights { IfOk result (λ row. (t : ℕ) → t < length editor.now.now.trans → slice_index row.items t ≡ takes editor.now.now t p) }
+{
+    let mut row = vec![in alloc; 0; editor.count_trans() as usize]?;
+    for (t, weight) in editor.takers(p) {
+        row[t as usize] = weight;
+    }
+    Ok(row)
+}
+
+/// The weights of the arcs to a live place from each transition.
+fn list_given(alloc: Global, editor: &Editor, p: u32) -> Result<Vec<u32>, NoMemory>
+    requires { IsPlace editor.now.now p }
+    ensures len { IfOk result (λ row. length row.items ≡ length editor.now.now.trans) }
+    ensures weights { IfOk result (λ row. (t : ℕ) → t < length editor.now.now.trans → slice_index row.items t ≡ gives editor.now.now t p) }
+{
+    let mut row = vec![in alloc; 0; editor.count_trans() as usize]?;
+    for (t, weight) in editor.givers(p) {
+        row[t as usize] = weight;
+    }
+    Ok(row)
+}
+
+fn push_arc(list: &mut Seq<NetArc>, arc: NetArc) -> Result<(), NoMemory>
+    ensures { OnOk result (list.new ≡ list.old ++ weighted_arc arc) }
+{
+    if arc.weight > 0 {
+        list.push(arc)?;
+    }
+    Ok(())
+}
+
+/// Adds the arcs between a live place, whose new number is q, and these transitions.
+fn push_row(
+    alloc: Global,
+    list: &mut Seq<NetArc>,
+    editor: &Editor,
+    trans: &[u32],
+    p: u32,
+    q: u32,
+) -> Result<(), NoMemory>
+    requires live { IsPlace editor.now.now p }
+    requires there { All (λ t. t < length editor.now.now.trans) trans.now }
+    requires fit { length trans.now < 2 ^ 32 }
+    ensures { OnOk result (list.new ≡ list.old ++ row_arcs editor.now.now trans.now p q) }
+{
+    let taken = list_taken(alloc, editor, p)?;
+    let given = list_given(alloc, editor, p)?;
+    for u in 0..trans.len() as u32 {
+        let t = trans[u as usize] as usize;
+        push_arc(
+            list,
+            NetArc {
+                place: q,
+                trans: u,
+                into: false,
+                weight: taken[t],
+            },
+        )?;
+        push_arc(
+            list,
+            NetArc {
+                place: q,
+                trans: u,
+                into: true,
+                weight: given[t],
+            },
+        )?;
+    }
+    Ok(())
+}
+
+/// The arcs between these places and these transitions.
+pub fn list_arcs(
+    alloc: Global,
+    editor: &Editor,
+    places: &[u32],
+    trans: &[u32],
+) -> Result<Seq<NetArc>, NoMemory>
+    requires live { All (λ p. IsPlace editor.now.now p) places.now }
+    requires there { All (λ t. t < length editor.now.now.trans) trans.now }
+    requires fit { length trans.now < 2 ^ 32 }
+    requires places_fit { length places.now < 2 ^ 32 }
+    ensures { IfOk result (λ list. list ≡ all_arcs editor.now.now places.now trans.now) }
+{
+    let mut list = Seq::new(alloc);
+    for q in 0..places.len() as u32 {
+        push_row(alloc, &mut list, editor, trans, places[q as usize], q)?;
+    }
+    Ok(list)
+}
