@@ -40,7 +40,7 @@ before-take (w ∷ ws) = elim (cases_Bool (is_closing w)) [
 ]
 
 -- how many words there are after it
-after-length : (ws : Row) → close_length ws + length (after_close ws) + cond (list_any is_closing ws) 1 0 ≡ length ws
+pub after-length : (ws : Row) → close_length ws + length (after_close ws) + cond (list_any is_closing ws) 1 0 ≡ length ws
 after-length [] = refl
 after-length (w ∷ ws) = elim (cases_Bool (is_closing w)) [
   | inl k ↦ (λ j. cond (k j) 0 (suc (close_length ws)) + length (cond (k j) ws (after_close ws)) + cond (k j || list_any is_closing ws) 1 0) ∙ (let e : 0 + length ws + 1 ≡ suc (length ws) = omega arith in e)

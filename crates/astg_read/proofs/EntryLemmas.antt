@@ -10,7 +10,7 @@ use Rattle.astg_read.specs.Markings.{Entry, entry_at, further_words, front_entry
 use Rattle.astg_read.specs.Nodes.{trans_of}
 use Rattle.astg_read.specs.Shown.{shown_words, shown_entry, shown_entries}
 
-skipped : (n : ℕ) (ws : Row) → entries_after n ws ≡ entries_after zero (drop n ws)
+pub skipped : (n : ℕ) (ws : Row) → entries_after n ws ≡ entries_after zero (drop n ws)
 skipped zero [] = refl
 skipped (suc n) [] = refl
 skipped zero (w ∷ ws) = refl
@@ -20,13 +20,13 @@ skipped (suc n) (w ∷ ws) = skipped n ws
 from_front : (w : Word) (ws : Row) (n : ℕ) → n ≡ suc (further_words (entry_at w ws)) → entries_after zero (w ∷ ws) ≡ entry_at w ws ∷ entries_after zero (drop n (w ∷ ws))
 from_front w ws n e = ap (λ es. entry_at w ws ∷ es) (skipped (further_words (entry_at w ws)) ws) ∙ ap (λ k. entry_at w ws ∷ entries_after zero (drop k (w ∷ ws))) (sym e)
 
-words-drop : (n : ℕ) (words : List (Bor (List ℕ))) → shown_words (drop n words) ≡ drop n (shown_words words)
+pub words-drop : (n : ℕ) (words : List (Bor (List ℕ))) → shown_words (drop n words) ≡ drop n (shown_words words)
 words-drop zero [] = refl
 words-drop (suc n) [] = refl
 words-drop zero (w ∷ words) = refl
 words-drop (suc n) (w ∷ words) = words-drop n words
 
-one-more : (place : Row) (tokens : ℕ) → 1 ≤ length place → length place + tokens ≡ suc (length (drop 1 place) + tokens)
+pub one-more : (place : Row) (tokens : ℕ) → 1 ≤ length place → length place + tokens ≡ suc (length (drop 1 place) + tokens)
 one-more [] t h = absurd (omega (arith, h))
 one-more (p ∷ ps) t h = omega arith
 

@@ -8,12 +8,15 @@ use Rattle.stg_net.specs.declared.signal.Signal.{Signal}
 use Rattle.astg_read.specs.declared.rule.Rule.{Rule}
 use Rattle.astg_read.specs.declared.rule.Rule.TheVariants.{BadMarking, TooMany, HasDummy, UnknownDirective, OutOfOrder}
 use Rattle.astg_read.specs.Rows.{Word, Row, begins, after_first, is_header, is_directive, is_graph_row}
-use Rattle.astg_read.specs.Markings.{is_bad_marking, is_unfinished}
+use Rattle.astg_read.specs.Markings.{before_close, is_bad_marking, is_unfinished}
 use Rattle.astg_read.specs.Known.{Known, arcs_in}
 use Rattle.astg_read.specs.Rules.{line_rules, has_too_many, breaks_directive, breaks_order, breaks_marking, marking_with, ends_text}
 use Rattle.astg_read.specs.Steps.{after_row, after_graph, with_names, with_graph_row}
 use Rattle.astg_read.specs.Sound.{IsSound}
-use Rattle.astg_read.specs.Taking.{line_fault, verdict, taken, nothing, IsGood, IsKept}
+use Rattle.astg_read.specs.declared.reader.Reader.{Reader}
+use Rattle.astg_read.specs.Header.{without_dummies}
+use Rattle.astg_read.specs.Settled.{IsSettled}
+use Rattle.astg_read.specs.Taking.{line_fault, verdict, taken, nothing, known_of, IsGood, IsKept, IsSettledIn}
 use Rattle.astg_read.proofs.Verdicts.{past, stop, verdict-inside}
 use Rattle.astg_read.proofs.Takings.{verdict-said, verdict-dummies, too-taken, ends-outside, ends-inside, broken-head, dummy-row, or_later-none, after-begun, after-before}
 use Rattle.astg_read.proofs.Sounds.{sound-after, sound-marking}
@@ -213,3 +216,7 @@ kept-nothing limits = record {
   where
     none : (n : ℕ) → nat_lt n 0 ≡ false
     none n = le-ltb n 0 (omega arith)
+
+-- before the first line nothing is settled
+pub settled-none : (most : ℕ) (r : Reader) → known_of r ≡ nothing → IsSettledIn most r
+settled-none most r start = subst (λ m. MatchOption m ⊤ (λ words. IsSettled most (without_dummies r.signals) r.graph.places r.settled (before_close (drop 1 words)))) (sym (ap (λ (k : Known). k.marking) start)) tt

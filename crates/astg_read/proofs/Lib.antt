@@ -12,6 +12,7 @@ pub mod Verdicts
 pub mod NodeLemmas
 pub mod EntryLemmas
 pub mod CloseLemmas
+pub mod SettledLemmas
 pub mod Takings
 pub mod Kept
 pub mod ReadLemmas

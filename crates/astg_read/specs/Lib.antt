@@ -17,4 +17,5 @@ pub mod GraphRules
 pub mod Sound
 pub mod Built
 pub mod Marks
+pub mod Settled
 pub mod Standing

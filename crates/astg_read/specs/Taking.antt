@@ -1,5 +1,5 @@
 -- What a call that takes a line returns.
-use Rattle.std.specs.Prelude.{◌≡◌, ℕ, ◌≤◌, Bool, false, [], ◌∷◌, length, codes, Option, None, Some, Result, Ok, Err, if◌then◌else◌, ◌⊎◌, true, MatchOption, ⊤}
+use Rattle.std.specs.Prelude.{◌≡◌, ℕ, ◌≤◌, Bool, false, [], ◌∷◌, length, drop, codes, Option, None, Some, Result, Ok, Err, if◌then◌else◌, ◌⊎◌, true, MatchOption, ⊤}
 use Rattle.stg_net.specs.declared.limits.Limits.{Limits}
 use Rattle.stg_net.specs.declared.signal.Kind.{Kind}
 use Rattle.stg_net.specs.declared.signal.Kind.TheVariants.{Input, Output, Internal}
@@ -16,8 +16,9 @@ use Rattle.astg_read.specs.declared.reader.Reader.{Reader}
 use Rattle.astg_read.specs.Rows.{Word, Row, begins_with_dot}
 use Rattle.astg_read.specs.Header.{without_dummies}
 use Rattle.astg_read.specs.Known.{Known}
-use Rattle.astg_read.specs.Markings.{is_bad_marking}
+use Rattle.astg_read.specs.Markings.{before_close, is_bad_marking}
 use Rattle.astg_read.specs.Rules.{line_rules, first_broken, rules, breaks_directive, ends_text, has_too_many}
+use Rattle.astg_read.specs.Settled.{IsSettled}
 use Rattle.astg_read.specs.Sound.{IsSound}
 use Rattle.astg_read.specs.Steps.{after_row}
 
@@ -92,6 +93,10 @@ pub record IsKept (limits : Limits) (k : Known) : Type 0 where
   pub counts : has_too_many limits k ≡ false
   pub good : IsGood limits.weight k
   pub sound : IsSound limits.weight k
+
+-- where the marking has begun, what the reader settled of it is
+abbrev pub IsSettledIn : ℕ → Reader → Type 0
+IsSettledIn most r = MatchOption r.marking ⊤ (λ words. IsSettled most (without_dummies r.signals) r.graph.places r.settled (before_close (drop 1 words)))
 
 -- The text stands for this, or has this fault, unless memory ran out.
 abbrev pub Gives : Meaning → Result (Unit {0}) ReadError → Result Meaning Fault → Type 0

@@ -73,7 +73,7 @@ fn token_words<'w, 'a>(words: &'w [&'a [u8]]) -> &'w [&'a [u8]]
 }
 
 /// The entry in front.
-fn front<'w, 'a>(words: &'w [&'a [u8]]) -> Entry<'w, 'a>
+pub fn front<'w, 'a>(words: &'w [&'a [u8]]) -> Entry<'w, 'a>
     requires { 0 < length words.now }
     ensures entry { shown_entry result ≡ markings.front_entry (shown_words words.now) }
     ensures least { 1 ≤ length result.place.now }

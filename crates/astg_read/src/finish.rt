@@ -303,6 +303,7 @@ pub fn finish<'a>(alloc: Global, limits: &Limits, reader: Reader<'a>) -> Result<
         signals,
         graph,
         marking,
+        settled: _,
     } = reader;
     let marks = marks_in(alloc, &signals, &marking)?;
     let spec = build(alloc, limits, signals, graph, marks.as_slice())?;

@@ -14,6 +14,7 @@ mod pairs;
 mod read;
 mod reader;
 mod rule;
+mod settled;
 mod signals;
 mod targets;
 #[cfg(test)]

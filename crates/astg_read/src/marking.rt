@@ -1,20 +1,19 @@
 //! The words of a marking, as far as they have been read.
 
-ghost use Rattle.std.specs.Prelude.{◌≡◌, ◌++◌, ◌∷◌, ◌≤◌, ◌<◌, ◌^◌, [], not, ◌||◌, drop, length, map, IfOk, OnOk};
+ghost use Rattle.std.specs.Prelude.{◌≡◌, ◌++◌, ◌∷◌, ◌≤◌, ◌<◌, ◌^◌, [], drop, length, IfOk, OnOk};
 ghost use Rattle.std.specs.List.{list_any};
 ghost use Rattle.astg_read.specs.Header.{without_dummies};
 ghost use Rattle.astg_read.specs.Markings as markings;
 ghost use Rattle.astg_read.specs.Marks as marked;
-ghost use Rattle.astg_read.specs.Shown.{shown_entry, shown_entries, shown_place, shown_words, shown_marks, texts};
+ghost use Rattle.astg_read.specs.Settled.{IsSettled};
+ghost use Rattle.astg_read.specs.Shown.{shown_words, shown_marks, texts};
 
-use crate::entries::{
-    Entry, entries_of, is_whole, is_whole_place, named_place, starts_entry, tokens_of,
-};
-use crate::graph::{Graph, Place};
+use crate::entries::entries_of;
+use crate::graph::Graph;
 use crate::marks::{Mark, marks_of};
+use crate::settled::Settled;
 use crate::signals::Signals;
 use astg_lex::Word;
-use indexmap::IndexSet;
 use std::alloc::Global;
 use std::marker::Model;
 use stg_net::{NoMemory, Seq};
@@ -44,87 +43,28 @@ fn close_length(words: &[&[u8]]) -> usize
     words.len()
 }
 
-/// Whether words name no place of the graph, or one that was named before.
-fn is_bad_place<'a>(
-    signals: &Signals<'_>,
-    graph: &Graph<'_>,
-    named: &IndexSet<Place<'a>>,
-    words: &[&'a [u8]],
-) -> bool
-    requires { length signals.now < 2 ^ 32 }
-    ensures { result ≡ (not (markings.names_one (without_dummies signals.now) graph.now.places (shown_words words.now)) || markings.names_one (without_dummies signals.now) (map shown_place named.now.keys) (shown_words words.now)) }
+/// The same, where none of the first words is one.
+fn close_length_after(first: usize, words: &[&[u8]]) -> usize
+    requires least { first ≤ markings.close_length (shown_words words.now) }
+    requires within { first ≤ length words.now }
+    ensures value { result ≡ markings.close_length (shown_words words.now) }
+    ensures most { result ≤ length words.now }
 {
-    match named_place(signals, words) {
-        Some(place) => !graph.has_place(&place) || named.contains(&place),
-        None => true,
-    }
-}
-
-/// Whether an entry is wrong, after others that named these places.
-fn is_bad_entry<'a>(
-    most: u32,
-    signals: &Signals<'_>,
-    graph: &Graph<'_>,
-    is_closed: bool,
-    named: &IndexSet<Place<'a>>,
-    entry: &Entry<'_, 'a>,
-) -> bool
-    requires { length signals.now < 2 ^ 32 }
-    ensures { result ≡ markings.is_bad_entry most (without_dummies signals.now) graph.now.places is_closed (map shown_place named.now.keys) (shown_entry entry.now) }
-{
-    !starts_entry(entry)
-        || (is_closed && !is_whole(entry))
-        || (is_whole_place(entry.place) && is_bad_place(signals, graph, named, entry.place))
-        || tokens_of(entry.tokens) > most
-}
-
-/// Notes the place that words name.
-fn add_named<'a>(
-    signals: &Signals<'_>,
-    named: &mut IndexSet<Place<'a>>,
-    words: &[&'a [u8]],
-) -> Result<(), NoMemory>
-    requires { length signals.now < 2 ^ 32 }
-    ensures { OnOk result (map shown_place named.new.keys ≡ markings.with_named (without_dummies signals.now) (map shown_place named.old.keys) (shown_words words.now)) }
-{
-    if let Some(place) = named_place(signals, words) {
-        named.insert(place)?;
-    }
-    Ok(())
-}
-
-/// Whether one of the entries is wrong.
-fn has_bad_entry(
-    alloc: Global,
-    most: u32,
-    signals: &Signals<'_>,
-    graph: &Graph<'_>,
-    is_closed: bool,
-    entries: &[Entry<'_, '_>],
-) -> Result<bool, NoMemory>
-    requires { length signals.now < 2 ^ 32 }
-    ensures { IfOk result (λ is_bad. is_bad ≡ markings.has_bad_entry most (without_dummies signals.now) graph.now.places is_closed [] (shown_entries entries.now)) }
-{
-    let mut named = IndexSet::new(alloc);
-    for entry in entries {
-        if is_bad_entry(most, signals, graph, is_closed, &named, entry) {
-            return Ok(true);
-        }
-        add_named(signals, &mut named, entry.place)?;
-    }
-    Ok(false)
+    first + close_length(&words[first..])
 }
 
 /// Whether the words after `.marking` are wrong, as far as they go.
-fn is_bad_marking(
-    alloc: Global,
+fn is_bad_marking<'a>(
     most: u32,
     signals: &Signals<'_>,
     graph: &Graph<'_>,
-    words: &[&[u8]],
+    settled: &mut Settled<'a>,
+    words: &[&'a [u8]],
 ) -> Result<bool, NoMemory>
-    requires { length signals.now < 2 ^ 32 }
-    ensures { IfOk result (λ is_bad. is_bad ≡ markings.is_bad_marking most (without_dummies signals.now) graph.now.places (shown_words words.now)) }
+    requires small { length signals.now < 2 ^ 32 }
+    requires settled { IsSettled most (without_dummies signals.now) graph.now.places settled.old (markings.before_close (drop 1 (shown_words words.now))) }
+    ensures bad { IfOk result (λ is_bad. is_bad ≡ markings.is_bad_marking most (without_dummies signals.now) graph.now.places (shown_words words.now)) }
+    ensures settled { OnOk result (IsSettled most (without_dummies signals.now) graph.now.places settled.new (markings.before_close (drop 1 (shown_words words.now)))) }
 {
     if words.is_empty() {
         return Ok(false);
@@ -133,13 +73,12 @@ fn is_bad_marking(
         return Ok(true);
     }
     let rest = &words[1..];
-    let count = close_length(rest);
+    let count = close_length_after(settled.words, rest);
     if rest.len() - count > 1 {
         return Ok(true);
     }
-    let entries = entries_of(alloc, &rest[..count])?;
     let is_closed = count < rest.len();
-    let is_bad = has_bad_entry(alloc, most, signals, graph, is_closed, entries.as_slice())?;
+    let is_bad = settled.has_bad_entry(most, signals, graph, is_closed, &rest[..count])?;
     Ok(is_bad)
 }
 
@@ -219,18 +158,20 @@ impl<'a> Marking<'a> {
         Ok(())
     }
 
-    /// Whether the words are wrong, as far as they go.
+    /// Whether the words are wrong, as far as they go. Settled entries aren't looked at again.
     pub fn is_bad(
         &self,
-        alloc: Global,
         most: u32,
         signals: &Signals<'_>,
         graph: &Graph<'_>,
+        settled: &mut Settled<'a>,
     ) -> Result<bool, NoMemory>
-        requires { length signals.now < 2 ^ 32 }
-        ensures { IfOk result (λ is_bad. is_bad ≡ markings.is_bad_marking most (without_dummies signals.now) graph.now.places self.now) }
+        requires small { length signals.now < 2 ^ 32 }
+        requires settled { IsSettled most (without_dummies signals.now) graph.now.places settled.old (markings.before_close (drop 1 self.now)) }
+        ensures bad { IfOk result (λ is_bad. is_bad ≡ markings.is_bad_marking most (without_dummies signals.now) graph.now.places self.now) }
+        ensures settled { OnOk result (IsSettled most (without_dummies signals.now) graph.now.places settled.new (markings.before_close (drop 1 self.now))) }
     {
-        is_bad_marking(alloc, most, signals, graph, self.words.as_slice())
+        is_bad_marking(most, signals, graph, settled, self.words.as_slice())
     }
 
     /// What the entries mark, in order.

@@ -1,16 +1,17 @@
 //! What the lines say, line by line.
 
-ghost use Rattle.std.specs.Prelude.{◌≡◌, ◌++◌, ◌∷◌, [], ◌<◌, ◌≤◌, ◌^◌, not, length, codes, true, false, None, nat_lt, IfOk, IsTrue, ◌⊎◌};
+ghost use Rattle.std.specs.Prelude.{◌≡◌, ◌++◌, ◌∷◌, [], ◌<◌, ◌≤◌, ◌^◌, not, length, codes, true, false, None, drop, nat_lt, IfOk, OnOk, IsTrue, ◌⊎◌};
 ghost use Rattle.std.specs.List.{list_all, list_any};
 ghost use Rattle.stg_net.specs.Names as forms;
 ghost use Rattle.astg_read.specs.Header.{same_name, signals_of, without_dummies};
 ghost use Rattle.astg_read.specs.Graphs.{arcs, same_pair};
 ghost use Rattle.astg_read.specs.Lists.{stands_again};
-ghost use Rattle.astg_read.specs.Markings.{is_bad_marking, is_unfinished};
+ghost use Rattle.astg_read.specs.Markings.{before_close, is_bad_marking, is_closing, is_unfinished};
 ghost use Rattle.astg_read.specs.Rows.{begins, begins_with_dot};
+ghost use Rattle.astg_read.specs.Settled.{IsSettled};
 ghost use Rattle.astg_read.specs.Shown.{texts, shown_pairs, shown_targets};
 ghost use Rattle.astg_read.specs.Steps.{with_pairs};
-ghost use Rattle.astg_read.specs.Taking.{Says, Takes, Marks, IsKept, nothing, known_of, directive, counted};
+ghost use Rattle.astg_read.specs.Taking.{Says, Takes, Marks, IsKept, IsSettledIn, nothing, known_of, directive, counted};
 ghost use Rattle.astg_read.specs.Targets.{words_in};
 ghost use Rattle.astg_read.specs.GraphRules as rules;
 ghost use Rattle.astg_read.specs.Rules as line_rules;
@@ -23,6 +24,7 @@ use crate::marking::Marking;
 use crate::names::is_name;
 use crate::nodes::{is_node, is_signal, is_unknown, node_of};
 use crate::pairs::{Pair, join_places, pairs_of, weigh_trans};
+use crate::settled::Settled;
 use crate::signals::Signals;
 use crate::targets::{Target, are_nodes, are_weighed, have_signal, have_unknown, targets_of};
 use astg_lex::Word;
@@ -37,6 +39,7 @@ pub struct Reader<'a> {
     pub signals: Signals<'a>,
     pub graph: Graph<'a>,
     pub marking: Option<Marking<'a>>,
+    pub settled: Settled<'a>,
 }
 
 fn are_names(words: &[Word<'_>]) -> bool
@@ -144,6 +147,7 @@ impl<'a> Reader<'a> {
             signals: Signals::new(alloc),
             graph: Graph::new(alloc),
             marking: None,
+            settled: Settled::new(alloc),
         }
     }
 
@@ -230,7 +234,8 @@ impl<'a> Reader<'a> {
         }
         let mut marking = Marking::new(self.alloc);
         marking.extend(words)?;
-        if marking.is_bad(self.alloc, most, &self.signals, &self.graph)? {
+        let mut settled = Settled::new(self.alloc);
+        if marking.is_bad(most, &self.signals, &self.graph, &mut settled)? {
             return Err(LineError::Broken(Rule::BadMarking));
         }
         self.marking = Some(marking);
@@ -314,7 +319,9 @@ impl<'a> Reader<'a> {
         requires small { length self.old.signals < 2 ^ 32 }
         requires kept { IsKept limits.now (known_of self.old) }
         requires inside { is_unfinished (known_of self.old).marking ≡ true }
-        ensures { Takes limits.now (known_of self.old) (texts words.now) result (known_of self.new) }
+        requires settled { IsSettledIn limits.now.weight self.old }
+        ensures takes { Takes limits.now (known_of self.old) (texts words.now) result (known_of self.new) }
+        ensures settled { OnOk result (IsSettledIn limits.now.weight self.new) }
     {
         if words.is_empty() {
             return Ok(());
@@ -322,10 +329,10 @@ impl<'a> Reader<'a> {
         match &mut self.marking {
             None => Ok(()),
             Some(marking) => extend_marking(
-                self.alloc,
                 limits.weight,
                 &self.signals,
                 &self.graph,
+                &mut self.settled,
                 marking,
                 words,
             ),
@@ -382,36 +389,52 @@ impl<'a> Reader<'a> {
         self.count(limits, Ok(()))
     }
 
-    /// Takes the next line, or tells the rule that it breaks first.
-    pub fn take_line(&mut self, limits: &Limits, words: &[Word<'a>]) -> Result<(), LineError>
-        requires small { limits.now.signals < 2 ^ 32 }
-        requires kept { IsKept limits.now (known_of self.old) }
+    /// Takes a line outside a marking.
+    fn take_outside(&mut self, limits: &Limits, words: &[Word<'a>]) -> Result<(), LineError>
+        requires small { length self.old.signals < 2 ^ 32 }
+        requires outside { is_unfinished (known_of self.old).marking ≡ false }
         ensures { Takes limits.now (known_of self.old) (texts words.now) result (known_of self.new) }
     {
-        if self.is_in_marking() {
-            return self.take_marked(limits, words);
-        }
         match words {
             [] => self.take_nothing(limits),
             [first, rest @ ..] => self.take_words(limits, first.text, rest),
         }
     }
+
+    /// Takes the next line, or tells the rule that it breaks first.
+    pub fn take_line(&mut self, limits: &Limits, words: &[Word<'a>]) -> Result<(), LineError>
+        requires small { limits.now.signals < 2 ^ 32 }
+        requires kept { IsKept limits.now (known_of self.old) }
+        requires settled { IsSettledIn limits.now.weight self.old }
+        ensures takes { Takes limits.now (known_of self.old) (texts words.now) result (known_of self.new) }
+        ensures settled { OnOk result (IsSettledIn limits.now.weight self.new) }
+    {
+        if self.is_in_marking() {
+            return self.take_marked(limits, words);
+        }
+        let taken = self.take_outside(limits, words);
+        self.settled = Settled::new(self.alloc);
+        taken
+    }
 }
 
 /// Adds words to a marking.
 fn extend_marking<'a>(
-    alloc: Global,
     most: u32,
     signals: &Signals<'a>,
     graph: &Graph<'a>,
+    settled: &mut Settled<'a>,
     marking: &mut Marking<'a>,
     words: &[Word<'a>],
 ) -> Result<(), LineError>
-    requires { length signals.now < 2 ^ 32 }
-    ensures { Marks (is_bad_marking most (without_dummies signals.now) graph.now.places (marking.old ++ texts words.now)) (marking.old ++ texts words.now) result marking.new }
+    requires small { length signals.now < 2 ^ 32 }
+    requires unfinished { list_any is_closing marking.old ≡ false }
+    requires settled { IsSettled most (without_dummies signals.now) graph.now.places settled.old (before_close (drop 1 marking.old)) }
+    ensures marks { Marks (is_bad_marking most (without_dummies signals.now) graph.now.places (marking.old ++ texts words.now)) (marking.old ++ texts words.now) result marking.new }
+    ensures settled { OnOk result (IsSettled most (without_dummies signals.now) graph.now.places settled.new (before_close (drop 1 marking.new))) }
 {
     marking.extend(words)?;
-    if marking.is_bad(alloc, most, signals, graph)? {
+    if marking.is_bad(most, signals, graph, settled)? {
         return Err(LineError::Broken(Rule::BadMarking));
     }
     Ok(())

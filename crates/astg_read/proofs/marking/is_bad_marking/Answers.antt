@@ -1,25 +1,40 @@
-use Rattle.std.proofs.Common.{ap, sym, ◌∙◌, ◌-◌, [], arith, take, drop, length, length-drop, take_all, nat_lt}
+use Rattle.std.proofs.Common.{ap, sym, subst, ◌∙◌, ◌-◌, [], arith, take, drop, length, length-drop, take_all, nat_lt}
 use Rattle.std.proofs.lemmas.Bool.{lt-ltb, le-ltb}
-use Rattle.astg_read.specs.Markings.{has_bad_entry}
-use Rattle.astg_read.specs.Shown.{shown_entries}
+use Rattle.astg_read.specs.Markings.{entries_after, has_bad_entry}
+use Rattle.astg_read.specs.Settled.{IsSettled}
 use Rattle.astg_read.specs.Header.{without_dummies}
-use Rattle.astg_read.proofs.CloseLemmas.{positive, entries-first, followed, not-followed}
+use Rattle.astg_read.proofs.CloseLemmas.{positive, words-take, followed, not-followed}
+use Rattle.astg_read.proofs.SettledLemmas.{before-shown, within-close, within-rest}
 use Rattle.astg_read.proofs.marking.is_bad_marking.Goals as goal
 
-pub returns-then-rest-count-gt1 : goal.returns-then-rest-count-gt1
-returns-then-rest-count-gt1 c =
+pub close_length_after-count-requires-clause-least : goal.close_length_after-count-requires-clause-least
+close_length_after-count-requires-clause-least c = within-close c.args.words.now c.args.settled.now.words c.requires.settled.within
+
+pub close_length_after-count-requires-clause-within : goal.close_length_after-count-requires-clause-within
+close_length_after-count-requires-clause-within c = within-rest c.args.words.now c.args.settled.now.words c.requires.settled.within
+
+pub returns-then-rest-count-gt1-clause-bad : goal.returns-then-rest-count-gt1-clause-bad
+returns-then-rest-count-gt1-clause-bad c =
     let words = c.args.words.now in
     let rest = take (length words - 1) (drop 1 words) in
     sym (followed c.args.most (without_dummies c.args.signals.now) c.args.graph.now.places words _ (positive (length words) (sym c.is_empty.ensures ∙ c.if-is_empty.false)) (sym c.is_opening.ensures ∙ c.if-not-is_opening.false) rest (take_all (length words - 1) (drop 1 words) (omega (arith, length-drop 1 words)))
-    c.close_length-count.result c.close_length-count.ensures.value (lt-ltb 1 (length rest - c.close_length-count.result) c.if-rest-count-gt1.true))
+    c.close_length_after-count.result c.close_length_after-count.ensures.value (lt-ltb 1 (length rest - c.close_length_after-count.result) c.if-rest-count-gt1.true))
 
-pub returns : goal.returns
-returns c =
+pub has_bad_entry-requires-clause-settled : goal.has_bad_entry-requires-clause-settled
+has_bad_entry-requires-clause-settled c =
+    subst (IsSettled c.args.most (without_dummies c.args.signals.now) c.args.graph.now.places c.args.settled.now) (sym (before-shown c.args.words.now c.close_length_after-count.result c.close_length_after-count.ensures.value)) c.requires.settled
+
+pub returns-clause-bad : goal.returns-clause-bad
+returns-clause-bad c =
     let words = c.args.words.now in
     let d = without_dummies c.args.signals.now in
     let rest = take (length words - 1) (drop 1 words) in
-    let n = c.close_length-count.result in
-    c.in_ok-is_bad.ensures
-    ∙ (λ j. has_bad_entry c.args.most d c.args.graph.now.places (nat_lt n (length rest)) [] ((ap shown_entries c.as_slice.ensures ∙ c.in_ok-entries.ensures ∙ entries-first _ n rest (omega arith)) j))
+    let n = c.close_length_after-count.result in
+    c.in_ok-is_bad.ensures.bad
+    ∙ ap (λ ws. has_bad_entry c.args.most d c.args.graph.now.places (nat_lt n (length rest)) [] (entries_after 0 ws)) (words-take n rest)
     ∙ sym (not-followed c.args.most d c.args.graph.now.places words _ (positive (length words) (sym c.is_empty.ensures ∙ c.if-is_empty.false)) (sym c.is_opening.ensures ∙ c.if-not-is_opening.false) rest (take_all (length words - 1) (drop 1 words) (omega (arith, length-drop 1 words)))
-    n c.close_length-count.ensures.value (le-ltb 1 (length rest - n) c.if-rest-count-gt1.false))
+    n c.close_length_after-count.ensures.value (le-ltb 1 (length rest - n) c.if-rest-count-gt1.false))
+
+pub returns-clause-settled : goal.returns-clause-settled
+returns-clause-settled c =
+    subst (IsSettled c.args.most (without_dummies c.args.signals.now) c.args.graph.now.places c.has_bad_entry.new.self) (before-shown c.args.words.now c.close_length_after-count.result c.close_length_after-count.ensures.value) c.in_ok-is_bad.ensures.settled

@@ -4,7 +4,7 @@ use Rattle.std.specs.Option.{option_map_or}
 use Rattle.astg_read.specs.Graphs.{same_place}
 use Rattle.astg_read.specs.Shown.{shown_place}
 use Rattle.astg_read.proofs.GraphLemmas.{place-among}
-use Rattle.astg_read.proofs.marking.is_bad_place.Goals as goal
+use Rattle.astg_read.proofs.settled.is_bad_place.Goals as goal
 
 pub returns-else-not-has_place : goal.returns-else-not-has_place
 returns-else-not-has_place c =

@@ -4,7 +4,7 @@ use Rattle.astg_read.specs.Lists.{added}
 use Rattle.astg_read.specs.Graphs.{same_place}
 use Rattle.astg_read.specs.Shown.{shown_place}
 use Rattle.astg_read.proofs.GraphLemmas.{places-added}
-use Rattle.astg_read.proofs.marking.add_named.Goals as goal
+use Rattle.astg_read.proofs.settled.add_named.Goals as goal
 
 pub returns-in_ok-insert : goal.returns-in_ok-insert
 returns-in_ok-insert c =

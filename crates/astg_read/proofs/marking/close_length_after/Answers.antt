@@ -1,0 +1,5 @@
+use Rattle.astg_read.proofs.SettledLemmas.{close-found}
+use Rattle.astg_read.proofs.marking.close_length_after.Goals as goal
+
+pub returns-clause-value : goal.returns-clause-value
+returns-clause-value c = close-found c.args.first c.args.words.now c.close_length.result c.requires.least c.close_length.ensures.value
