@@ -248,9 +248,18 @@ fn ends_with_the_first_fault(rt: HostRuntime) -> Result<(), Fail> {
     Ok(())
 }
 
+// Each text is refused with these printed bytes, and no file.
+fn assert_refused(rt: &impl Abort, alloc: Global, table: &[(&[u8], &[u8])]) -> Result<(), Fail> {
+    for (row, (text, printed)) in table.iter().enumerate() {
+        let ran = run_over(alloc, &["decompose", "spec.g"], text, (0, 0, 0), 100)?;
+        assert_ran(rt, row, &ran, Status::Refused, 0, printed);
+    }
+    Ok(())
+}
+
 #[test]
-fn refuses_a_text_by_its_first_bad_line(rt: HostRuntime) -> Result<(), Fail> {
-    let table: [(&[u8], &[u8]); 20] = [
+fn refuses_a_line_by_the_first_rule_that_it_breaks(rt: HostRuntime) -> Result<(), Fail> {
+    let table: [(&[u8], &[u8]); 11] = [
         (
             b".inputs a\n.outputs x\n.graph\na+ x+\x01\n.marking { }\n.end\n",
             b"refused BadByte line 4\n",
@@ -295,6 +304,13 @@ fn refuses_a_text_by_its_first_bad_line(rt: HostRuntime) -> Result<(), Fail> {
             b".inputs a\n.outputs x\n.graph\na+ x+(2)\n.marking { }\n.end\n",
             b"refused BadWeight line 4\n",
         ),
+    ];
+    assert_refused(&rt, rt.alloc(), &table)
+}
+
+#[test]
+fn refuses_a_marking(rt: HostRuntime) -> Result<(), Fail> {
+    let table: [(&[u8], &[u8]); 4] = [
         (
             b".inputs a\n.outputs x\n.graph\na+ x+\n.marking { p }\n.end\n",
             b"refused BadMarking line 5\n",
@@ -311,6 +327,13 @@ fn refuses_a_text_by_its_first_bad_line(rt: HostRuntime) -> Result<(), Fail> {
             b".inputs a\n.outputs x\n.graph\na+ x+\n.marking {\n.end\n",
             b"refused BadMarking line 6\n",
         ),
+    ];
+    assert_refused(&rt, rt.alloc(), &table)
+}
+
+#[test]
+fn refuses_a_whole_text(rt: HostRuntime) -> Result<(), Fail> {
+    let table: [(&[u8], &[u8]); 5] = [
         (b".inputs a\n.end\n", b"refused NoGraph line 2\n"),
         (b"", b"refused NoGraph line 1\n"),
         (
@@ -326,11 +349,7 @@ fn refuses_a_text_by_its_first_bad_line(rt: HostRuntime) -> Result<(), Fail> {
             b"refused Clash a+ a+/1 p\n",
         ),
     ];
-    for (row, (text, printed)) in table.into_iter().enumerate() {
-        let ran = run_over(rt.alloc(), &["decompose", "spec.g"], text, (0, 0, 0), 100)?;
-        assert_ran(&rt, row, &ran, Status::Refused, 0, printed);
-    }
-    Ok(())
+    assert_refused(&rt, rt.alloc(), &table)
 }
 
 // A text of that many bytes `#` behind these.
