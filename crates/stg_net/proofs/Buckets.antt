@@ -48,15 +48,17 @@ module _ {X : Type 0} where
   filter-filter p q r agree [] = refl
   filter-filter p q r agree (x ∷ xs) = kept p (q x) (r x) x (filter q xs) (filter r xs) (agree x) (filter-filter p q r agree xs)
 
-  filter_all : (p : X → Bool) (xs : List X) → All (λ x. p x ≡ true) xs → filter p xs ≡ xs
+  pub filter_all : (p : X → Bool) (xs : List X) → All (λ x. p x ≡ true) xs → filter p xs ≡ xs
   filter_all p [] all = refl
   filter_all p (x ∷ xs) all =
       let P : X → Type 0 = λ y. p y ≡ true in
       (λ j. cond (All-head P x xs all j) (x ∷ filter_all p xs (All-tail P x xs all) j) (filter_all p xs (All-tail P x xs all) j))
 
-  filter_none : (p : X → Bool) → ((x : X) → p x ≡ false) → (xs : List X) → filter p xs ≡ []
-  filter_none p none [] = refl
-  filter_none p none (x ∷ xs) = λ j. cond (none x j) (x ∷ filter_none p none xs j) (filter_none p none xs j)
+  pub filter_none : (p : X → Bool) (xs : List X) → All (λ x. p x ≡ false) xs → filter p xs ≡ []
+  filter_none p [] none = refl
+  filter_none p (x ∷ xs) none =
+      let P : X → Type 0 = λ y. p y ≡ false in
+      (λ j. cond (All-head P x xs none j) (x ∷ filter_none p xs (All-tail P x xs none) j) (filter_none p xs (All-tail P x xs none) j))
 
 low_below : (k n : ℕ) → (nat_lt k (suc n) && nat_lt k n) ≡ nat_lt k n
 low_below k n = grind (arith, nat_tests)
@@ -69,7 +71,7 @@ module _ {X : Type 0} (key : X → ℕ) where
   abbrev pub bucket : List X → ℕ → List X
   bucket xs t = filter (λ x. key x == t) xs
 
-  abbrev low : List X → ℕ → List X
+  abbrev pub low : List X → ℕ → List X
   low xs n = filter (λ x. nat_lt (key x) n) xs
 
   one_more : (xs : List X) (n : ℕ) → IsPermutation (low xs (suc n)) (low xs n ++ bucket xs n)
@@ -84,7 +86,7 @@ module _ {X : Type 0} (key : X → ℕ) where
 
   buckets_below : (xs : List X) (n : ℕ) → IsPermutation (low xs n) (listed_below (bucket xs) n)
   buckets_below xs zero =
-      subst (λ ys. IsPermutation ys []) (sym (filter_none (λ x. nat_lt (key x) 0) (λ x. le-ltb (key x) 0 (omega arith)) xs)) (IsPermutation-refl [])
+      subst (λ ys. IsPermutation ys []) (sym (filter_none (λ x. nat_lt (key x) 0) xs (λ k d below. le-ltb _ 0 (omega arith)))) (IsPermutation-refl [])
   buckets_below xs (suc n) =
       IsPermutation-trans (low xs (suc n)) (low xs n ++ bucket xs n) (listed_below (bucket xs) (suc n)) (one_more xs n)
       (IsPermutation-append_left (bucket xs n) (low xs n) (listed_below (bucket xs) n) (buckets_below xs n))

@@ -14,20 +14,20 @@ use Rattle.stg_net.specs.declared.spec.PlaceName.TheVariants.{Named, Between}
 use Rattle.stg_net.specs.PlaceWords.{place_word}
 use Rattle.stg_net.specs.Component.{component}
 
-abbrev signal : ℕ → Kind → Signal
+abbrev pub signal : ℕ → Kind → Signal
 signal letter kind = record { name = letter ∷ []; kind = kind }
 
-abbrev named : ℕ → Edge → TransName
+abbrev pub named : ℕ → Edge → TransName
 named s edge = record { signal = s; edge = edge; index = 0 }
 
-abbrev into : ℕ → ℕ → NetArc
+abbrev pub into : ℕ → ℕ → NetArc
 into p t = record { place = p; trans = t; into = true; weight = 1 }
 
-abbrev from : ℕ → ℕ → NetArc
+abbrev pub from : ℕ → ℕ → NetArc
 from p t = record { place = p; trans = t; into = false; weight = 1 }
 
 -- a C-element, with its places in the order in which they were met: its transitions are a+ c+ b+ a- b- c-
-abbrev celem : NetLists
+abbrev pub celem : NetLists
 celem = record {
   signals = signal 97 Input ∷ signal 98 Input ∷ signal 99 Output ∷ [];
   trans = named 0 Rise ∷ named 2 Rise ∷ named 1 Rise ∷ named 0 Fall ∷ named 1 Fall ∷ named 2 Fall ∷ [];

@@ -64,11 +64,11 @@ finished b signals arcs holds same moved sorted = record {
   signal_names = rw same (names_apart b.signals.entries holds.names);
   trans_names = holds.trans_names;
   trans_signals = rw (same, length-map b.signals.entries signal_of) holds.trans_signals;
-  arcs = All-permutation (IsArcOf (length b.tokens.items) (length b.trans.items)) _ _ moved holds.arcs;
+  arcs = All-permutation (IsArcOf (length b.tokens.items) (length b.trans.items)) _ _ moved holds.arcs_there;
   ordered = arcs_in_order b.arcs.items arcs moved holds.distinct sorted;
-  signals_fit = rw (same, length-map b.signals.entries signal_of) (omega (arith, holds.signals, holds.small));
-  trans_fit = omega (arith, holds.trans, holds.small_trans);
-  places_fit = omega (arith, holds.places, holds.small_places);
+  signals_fit = rw (same, length-map b.signals.entries signal_of) (omega (arith, holds.signals, holds.signals_fit));
+  trans_fit = omega (arith, holds.trans, holds.trans_fit);
+  places_fit = omega (arith, holds.places, holds.places_fit);
 }
 
 pub finished_within : (b : Inside) (signals : List Signal) (arcs : List NetArc) → IsBuilder b → signals ≡ map signal_of b.signals.entries → IsPermutation b.arcs.items arcs
@@ -77,7 +77,7 @@ finished_within b signals arcs holds same moved = record {
   signals = rw (same, length-map b.signals.entries signal_of) holds.signals;
   trans = holds.trans;
   places = holds.places;
-  arcs = rw (length_permutation _ _ moved) holds.number;
+  arcs = rw (length_permutation _ _ moved) holds.arcs;
   tokens = holds.tokens;
   weights = All-permutation (λ (a : NetArc). a.weight ≤ b.limits.weight) _ _ moved holds.weights;
 }

@@ -43,7 +43,8 @@ pub givers_more : (a : NetArc) (keys : List ℕ) (arcs : List NetArc) (p : ℕ) 
     → least_giver (get_or (lowered a keys) p 0) p arcs ≡ least_giver (get_or keys p 0) p (a ∷ arcs)
 givers_more a keys arcs p inside = lowered_gives a.into a.trans a.place keys arcs p inside
 
-numbers_where-agree : (f g : ℕ → Bool) (n : ℕ) → ((k : ℕ) → k < n → f k ≡ g k) → numbers_where f n ≡ numbers_where g n
+-- tests that agree below the bound pass the same numbers
+pub numbers_where-agree : (f g : ℕ → Bool) (n : ℕ) → ((k : ℕ) → k < n → f k ≡ g k) → numbers_where f n ≡ numbers_where g n
 numbers_where-agree f g zero same = refl
 numbers_where-agree f g (suc n) same =
     (λ j. numbers_where-agree f g n (λ k below. same k (omega arith)) j ++ cond (same n (omega arith) j) (n ∷ []) [])

@@ -7,16 +7,17 @@ use Rattle.stg_net.specs.Graph.{Graph, place_at, full_name_at, tokens_at, takes}
 use Rattle.stg_net.specs.Run.{IsEnabled, reached}
 use Rattle.stg_net.specs.Contraction.{contracted, without_place, without_trans, places_before, places_after}
 use Rattle.stg_net.specs.Initial.{initial}
+use Rattle.stg_net.proofs.Examples.{named, into, from}
 
 -- a+ gives 2 to p, 1 to q and 1 to r, b+ gives to r, h+ goes from p to q, b+ takes 2 from q, x+ takes from r; p has 1 token, q has 2
 abbrev weighted : NetLists
 weighted = record {
   signals = record { name = codes "a"; kind = Input } ∷ record { name = codes "b"; kind = Input } ∷ record { name = codes "h"; kind = Input } ∷ record { name = codes "x"; kind = Output } ∷ [];
-  trans = record { signal = 0; edge = Rise; index = 0 } ∷ record { signal = 1; edge = Rise; index = 0 } ∷ record { signal = 2; edge = Rise; index = 0 } ∷ record { signal = 3; edge = Rise; index = 0 } ∷ [];
+  trans = named 0 Rise ∷ named 1 Rise ∷ named 2 Rise ∷ named 3 Rise ∷ [];
   tokens = 1 ∷ 2 ∷ 0 ∷ [];
-  arcs = record { place = 0; trans = 0; into = true; weight = 2 } ∷ record { place = 0; trans = 2; into = false; weight = 1 }
-      ∷ record { place = 1; trans = 0; into = true; weight = 1 } ∷ record { place = 1; trans = 1; into = false; weight = 2 } ∷ record { place = 1; trans = 2; into = true; weight = 1 }
-      ∷ record { place = 2; trans = 0; into = true; weight = 1 } ∷ record { place = 2; trans = 1; into = true; weight = 1 } ∷ record { place = 2; trans = 3; into = false; weight = 1 } ∷ [];
+  arcs = record { place = 0; trans = 0; into = true; weight = 2 } ∷ from 0 2
+      ∷ into 1 0 ∷ record { place = 1; trans = 1; into = false; weight = 2 } ∷ into 1 2
+      ∷ into 2 0 ∷ into 2 1 ∷ from 2 3 ∷ [];
 }
 
 -- h is hidden
@@ -82,9 +83,9 @@ x_not_enabled e = let few : 1 ≤ 0 = e.covered 2 in absurd (omega arith)
 abbrev square : Graph
 square = initial (record {
   signals = record { name = codes "h"; kind = Input } ∷ [];
-  trans = record { signal = 0; edge = Rise; index = 0 } ∷ [];
+  trans = named 0 Rise ∷ [];
   tokens = 1 ∷ 2 ∷ 4 ∷ 8 ∷ [];
-  arcs = record { place = 0; trans = 0; into = false; weight = 1 } ∷ record { place = 1; trans = 0; into = false; weight = 1 } ∷ record { place = 2; trans = 0; into = true; weight = 1 } ∷ record { place = 3; trans = 0; into = true; weight = 1 } ∷ [];
+  arcs = from 0 0 ∷ from 1 0 ∷ into 2 0 ∷ into 3 0 ∷ [];
 }) []
 
 square_tokens : map (tokens_at (contracted square 0)) (0 ∷ 1 ∷ 2 ∷ 3 ∷ 4 ∷ 5 ∷ 6 ∷ 7 ∷ 8 ∷ []) ≡ 0 ∷ 0 ∷ 0 ∷ 0 ∷ 5 ∷ 9 ∷ 6 ∷ 10 ∷ 0 ∷ []

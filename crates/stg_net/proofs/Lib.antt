@@ -11,3 +11,7 @@ pub mod Givers
 pub mod Shown
 pub mod Weights
 pub mod Signals
+pub mod Edges
+pub mod Members
+pub mod Together
+pub mod Keyed

@@ -13,12 +13,13 @@ use Rattle.stg_net.specs.declared.arc.NetArc.{NetArc}
 use Rattle.stg_net.specs.Net.{NetLists, signal_at, is_kind}
 use Rattle.stg_net.specs.Ordered.{listed_below, numbers_where, numbers_by, signals_of_kind, signal_order, least_giver, first_giver, place_order, new_number}
 use Rattle.stg_net.proofs.Buckets.{numbers_where-filter, IsPermutation-buckets}
+use Rattle.stg_net.proofs.Members.{Contains-range}
 
 -- the list has each number below n once
 abbrev pub IsOrder : ℕ → List ℕ → Type 0
 IsOrder n order = IsPermutation (range_with_len 0 n) order
 
-all_below : (n : ℕ) → All (λ k. k < n) (range_with_len 0 n)
+pub all_below : (n : ℕ) → All (λ k. k < n) (range_with_len 0 n)
 all_below n k d below =
     let inside : k < n = omega (arith, length-range_with_len 0 n) in
     omega (arith, get_or-range_with_len 0 n k d inside)
@@ -29,7 +30,7 @@ by_key key n m low =
     subst (IsPermutation (range_with_len 0 n)) (λ j. listed_below (λ t. sym (numbers_where-filter (λ k. key k == t) n) j) m)
     (IsPermutation-buckets key (range_with_len 0 n) m (λ k d below. low (get_or (range_with_len 0 n) k d)))
 
-least_giver-le : (none p : ℕ) (arcs : List NetArc) → least_giver none p arcs ≤ none
+pub least_giver-le : (none p : ℕ) (arcs : List NetArc) → least_giver none p arcs ≤ none
 least_giver-le none p [] = omega arith
 least_giver-le none p (a ∷ arcs) =
     let rest = least_giver-le none p arcs in
@@ -75,10 +76,7 @@ module _ (n : ℕ) (order : List ℕ) (is : IsOrder n order) where
   order_below = All-permutation (λ k. k < n) (range_with_len 0 n) order is (all_below n)
 
   pub order_has : (k : ℕ) → k < n → Contains order k
-  order_has k below =
-      let there : k < length (range_with_len 0 n) = omega (arith, length-range_with_len 0 n) in
-      let same : get_or (range_with_len 0 n) k k ≡ k = omega (arith, get_or-range_with_len 0 n k k below) in
-      Contains-permutation (range_with_len 0 n) order k is (k, there, same)
+  order_has k below = Contains-permutation (range_with_len 0 n) order k is (Contains-range n k below)
 
   -- a number stands where its new number says
   pub new_number-below : (k : ℕ) → k < n → new_number order k < length order

@@ -1,5 +1,5 @@
 -- What the transitions of a net take and give, read off its arcs.
-use Rattle.std.proofs.Common.{◌≡◌, ℕ, zero, suc, ◌+◌, ◌<◌, ◌≤◌, ◌&&◌, ◌==◌, Bool, true, false, cond, List, [], ◌∷◌, length, get_or, map, All, AllPairs, Some, None, refl, sym, ap, ◌∙◌, arith, zero-add, eq-eqb, inl, inr}
+use Rattle.std.proofs.Common.{◌≡◌, ℕ, zero, suc, ◌+◌, ◌<◌, ◌≤◌, ◌&&◌, ◌==◌, Bool, true, false, cond, List, [], ◌∷◌, length, get_or, map, All, AllPairs, Some, None, refl, sym, ap, ◌∙◌, subst, arith, zero-add, eq-eqb, inl, inr}
 use Rattle.std.specs.List.{range_with_len}
 use Rattle.std.proofs.lemmas.Bool.{and_parts, cases_lt, cases_Bool, eqb-true, false≢true, false_from_ne_true}
 use Rattle.std.proofs.lemmas.List.{get_or_past, get_or-map, length-map}
@@ -8,8 +8,8 @@ use Rattle.std.proofs.lemmas.List.Elements.{All-head, All-tail}
 use Rattle.std.proofs.lemmas.List.Sums.{sum_by-cons}
 use Rattle.stg_net.specs.declared.trans.TransName.{TransName}
 use Rattle.stg_net.specs.declared.arc.NetArc.{NetArc}
-use Rattle.stg_net.specs.Net.{NetLists, IsNet, IsBefore}
-use Rattle.stg_net.specs.Graph.{place_at, full_name_at, taken_by, given_by, takes, gives, tokens_at, tokens_in}
+use Rattle.stg_net.specs.Net.{NetLists, IsNet, IsBefore, IsArcOf, trans_at}
+use Rattle.stg_net.specs.Graph.{IsPlace, IsTrans, place_at, full_name_at, taken_by, given_by, takes, gives, tokens_at, tokens_in}
 use Rattle.stg_net.specs.Initial.{goes, joins, weight_of, row, place_of, full_name, initial, graph_of}
 
 -- the arc goes this way between t and p
@@ -144,9 +144,43 @@ takes-graph_of n t p net = takes-initial n (range_with_len 0 (length n.signals))
 pub gives-graph_of : (n : NetLists) (t p : ℕ) → IsNet n → gives (graph_of n) t p ≡ weight_of n.arcs true t p
 gives-graph_of n t p net = gives-initial n (range_with_len 0 (length n.signals)) t p net
 
+-- where a transition takes or gives there is an arc
+pub takes-joint : (n : NetLists) (t p : ℕ) → IsNet n → 0 < takes (graph_of n) t p → Joint n.arcs false t p
+takes-joint n t p net some = weight_of-joint false t p n.arcs (omega (arith, some, takes-graph_of n t p net))
+
+pub gives-joint : (n : NetLists) (t p : ℕ) → IsNet n → 0 < gives (graph_of n) t p → Joint n.arcs true t p
+gives-joint n t p net some = weight_of-joint true t p n.arcs (omega (arith, some, gives-graph_of n t p net))
+
+module _ (n : NetLists) (into : Bool) (t p : ℕ) (net : IsNet n) (j : Joint n.arcs into t p) where
+  joint_arc : IsArcOf (length n.tokens) (length n.trans) j.arc
+  joint_arc = subst (IsArcOf (length n.tokens) (length n.trans)) (j.arc_is j.arc) (net.arcs j.at j.arc j.inside)
+
+  -- the ends of an arc are there
+  pub joint_there : t < length n.trans
+  joint_there = omega (arith, joint_arc.trans_there, j.joins_both.trans_is)
+
+  pub joint_place : p < length n.tokens
+  joint_place = omega (arith, joint_arc.place_there, j.joins_both.place_is)
+
 -- the transitions of a net are live
 pub full_name_at-initial : (n : NetLists) (known : List ℕ) (t : ℕ) (d : TransName) → t < length n.trans → full_name_at (initial n known) t ≡ Some (full_name n (get_or n.trans t d))
 full_name_at-initial n known t d there = get_or-map (λ u. Some (full_name n u)) n.trans t d None there
 
 pub full_name_at-past : (n : NetLists) (known : List ℕ) (t : ℕ) → length n.trans ≤ t → full_name_at (initial n known) t ≡ None
 full_name_at-past n known t past = get_or_past (map (λ u. Some (full_name n u)) n.trans) t None (omega (arith, past, length-map n.trans (λ u. Some (full_name n u))))
+
+pub full_name_at-graph_of : (n : NetLists) (t : ℕ) → t < length n.trans → full_name_at (graph_of n) t ≡ Some (full_name n (trans_at n.trans t))
+full_name_at-graph_of n t there = full_name_at-initial n (range_with_len 0 (length n.signals)) t (trans_at [] t) there
+
+-- what is live is one of the net
+pub live_below : (n : NetLists) (t : ℕ) → IsTrans (graph_of n) t → t < length n.trans
+live_below n t live = elim (cases_lt t (length n.trans)) [
+  | inl below ↦ below
+  | inr past ↦ absurd (false≢true (rw (full_name_at-past n (range_with_len 0 (length n.signals)) t past) at live))
+]
+
+pub place_below : (n : NetLists) (p : ℕ) → IsPlace (graph_of n) p → p < length n.tokens
+place_below n p live = elim (cases_lt p (length n.tokens)) [
+  | inl below ↦ below
+  | inr past ↦ absurd (false≢true (rw (place_at-past n (range_with_len 0 (length n.signals)) p past) at live))
+]

@@ -29,17 +29,17 @@ building_of b = record { limits = b.limits; lists = record { signals = map signa
 
 -- each count is within its limit, names and arcs differ, and numbers are there
 pub record IsBuilder (b : Inside) : Type 0 where
-  pub small : b.limits.signals < 2 ^ 32
-  pub small_trans : b.limits.trans < 2 ^ 32
-  pub small_places : b.limits.places < 2 ^ 32
+  pub signals_fit : b.limits.signals < 2 ^ 32
+  pub trans_fit : b.limits.trans < 2 ^ 32
+  pub places_fit : b.limits.places < 2 ^ 32
   pub names : IsUnique name_eq b.signals
   pub signals : length b.signals.entries ≤ b.limits.signals
   pub trans : length b.trans.items ≤ b.limits.trans
   pub places : length b.tokens.items ≤ b.limits.places
-  pub number : length b.arcs.items ≤ b.limits.arcs
+  pub arcs : length b.arcs.items ≤ b.limits.arcs
   pub trans_names : AllPairs (λ (s t : TransName). s ≢ t) b.trans.items
   pub trans_signals : All (λ (t : TransName). t.signal < length b.signals.entries) b.trans.items
   pub tokens : All (λ k. k ≤ b.limits.weight) b.tokens.items
   pub weights : All (λ (a : NetArc). a.weight ≤ b.limits.weight) b.arcs.items
-  pub arcs : All (IsArcOf (length b.tokens.items) (length b.trans.items)) b.arcs.items
+  pub arcs_there : All (IsArcOf (length b.tokens.items) (length b.trans.items)) b.arcs.items
   pub distinct : AllPairs (λ a c. HasEnds a c → ⊥) b.arcs.items

@@ -4,6 +4,8 @@ use Rattle.std.specs.Str.{bytes_eq}
 use Rattle.stg_net.specs.declared.signal.Kind.{Kind}
 use Rattle.stg_net.specs.declared.signal.Kind.TheVariants.{Input, Output, Internal}
 use Rattle.stg_net.specs.declared.signal.Signal.{Signal}
+use Rattle.stg_net.specs.declared.trans.Edge.{Edge}
+use Rattle.stg_net.specs.declared.trans.Edge.TheVariants.{Rise, Fall, Toggle}
 use Rattle.stg_net.specs.declared.trans.TransName.{TransName}
 use Rattle.stg_net.specs.declared.arc.NetArc.{NetArc}
 use Rattle.stg_net.specs.declared.limits.Limits.{Limits}
@@ -57,9 +59,20 @@ number_of name signals = position (λ (s : Signal). bytes_eq name s.name) signal
 abbrev pub signal_at : List Signal → ℕ → Signal
 signal_at signals s = slice_index_or signals s (record { name = []; kind = Input })
 
+-- the name of the transition of that number
+abbrev pub trans_at : List TransName → ℕ → TransName
+trans_at trans t = slice_index_or trans t (record { signal = 0; edge = Rise; index = 0 })
+
 -- whether the two kinds are one
 abbrev pub is_kind : Kind → Kind → Bool
 is_kind Input Input = true
 is_kind Output Output = true
 is_kind Internal Internal = true
 is_kind k l = false
+
+-- whether the two edges are one
+abbrev pub is_edge : Edge → Edge → Bool
+is_edge Rise Rise = true
+is_edge Fall Fall = true
+is_edge Toggle Toggle = true
+is_edge e f = false

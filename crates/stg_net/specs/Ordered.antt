@@ -13,6 +13,7 @@ abbrev pub listed_below : {X : Type 0} → (ℕ → List X) → ℕ → List X
 listed_below f zero = []
 listed_below f (suc n) = listed_below f n ++ f n
 
+-- the number alone where it passes the test, and nothing otherwise
 abbrev pub only_where : (ℕ → Bool) → ℕ → List ℕ
 only_where test k = if test k then k ∷ [] else []
 
@@ -28,9 +29,11 @@ numbers_with key n t = numbers_where (λ k. key k == t) n
 abbrev pub numbers_by : (ℕ → ℕ) → ℕ → ℕ → List ℕ
 numbers_by key n m = listed_below (numbers_with key n) m
 
+-- whether the signal of that number has the kind
 abbrev pub has_kind : List Signal → Kind → ℕ → Bool
 has_kind signals kind s = is_kind kind (signal_at signals s).kind
 
+-- the numbers of the signals of a kind, in ascending order
 abbrev pub signals_of_kind : List Signal → Kind → List ℕ
 signals_of_kind signals kind = numbers_where (has_kind signals kind) (length signals)
 
@@ -59,9 +62,11 @@ place_order n = numbers_by (first_giver n) (length n.tokens) (length n.trans + 1
 abbrev pub new_number : List ℕ → ℕ → ℕ
 new_number order old = position_or_len (λ k. k == old) order
 
+-- the name with the new number of its signal
 abbrev pub with_signal_number : List ℕ → TransName → TransName
 with_signal_number order t = record t { signal = new_number order t.signal }
 
+-- the arc with another number of its place
 abbrev pub with_place_number : ℕ → NetArc → NetArc
 with_place_number q a = record a { place = q }
 

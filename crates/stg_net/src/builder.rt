@@ -1,6 +1,6 @@
 //! Nets under construction.
 
-ghost use Rattle.std.specs.Prelude.{◌≡◌, ◌≢◌, ◌+◌, ◌<◌, ◌≤◌, ◌↔◌, [], ◌∷◌, ◌++◌, length, All, None, slice_set, IfOk, OnOk, OnErr, IsErrOf, Err};
+ghost use Rattle.std.specs.Prelude.{◌≡◌, ◌≢◌, ◌<◌, ◌≤◌, ◌↔◌, length, All, None, IfOk, OnOk, OnErr, IsErrOf, Err};
 ghost use Rattle.std.specs.List.Sorted.{IsPermutation};
 ghost use Rattle.stg_net.specs.declared.arc.NetArc.{NetArc};
 ghost use Rattle.stg_net.specs.declared.trans.TransName.{TransName};
@@ -16,10 +16,15 @@ use std::marker::Model;
 /// Why something wasn't added to a net.
 #[derive(Clone, Copy, Debug, PartialEq, Eq)]
 pub enum BuildError {
+    /// As many signals are there as the limit says.
     TooManySignals = 1,
+    /// As many transitions are there as the limit says.
     TooManyTransitions = 2,
+    /// As many places are there as the limit says.
     TooManyPlaces = 3,
+    /// As many arcs are there as the limit says.
     TooManyArcs = 4,
+    /// Memory has run out.
     NoMemory = 5,
 }
 
@@ -88,7 +93,8 @@ impl NetBuilder {
         }
     }
 
-    /// Adds a signal last and gives its number.
+    /// Adds a signal last and gives its number. An error is `TooManySignals` where the limit is
+    /// met, and `NoMemory` otherwise.
     pub fn add_signal(&mut self, name: &[u8], kind: Kind) -> Result<u32, BuildError>
         requires { number_of name.now self.old.lists.signals ≡ None }
         ensures number { IfOk result (λ k. k ≡ length self.old.lists.signals) }
@@ -107,7 +113,8 @@ impl NetBuilder {
         Ok(number as u32)
     }
 
-    /// Adds a transition last and gives its number.
+    /// Adds a transition last and gives its number. An error is `TooManyTransitions` where the limit
+    /// is met, and `NoMemory` otherwise.
     pub fn add_trans(&mut self, name: TransName) -> Result<u32, BuildError>
         requires signal { name.signal < length self.old.lists.signals }
         requires fresh { All (λ (t : TransName). t ≢ name) self.old.lists.trans }
@@ -126,7 +133,8 @@ impl NetBuilder {
         Ok(number as u32)
     }
 
-    /// Adds a place last, with its tokens, and gives its number. No arc has that number yet.
+    /// Adds a place last, with its tokens, and gives its number. No arc has that number yet. An
+    /// error is `TooManyPlaces` where the limit is met, and `NoMemory` otherwise.
     pub fn add_place(&mut self, tokens: u32) -> Result<u32, BuildError>
         requires { tokens ≤ self.old.limits.weight }
         ensures number { IfOk result (λ k. k ≡ length self.old.lists.tokens) }
@@ -145,7 +153,8 @@ impl NetBuilder {
         Ok(number as u32)
     }
 
-    /// Adds an arc between a place and a transition that are there.
+    /// Adds an arc between a place and a transition that are there. An error is `TooManyArcs` where
+    /// the limit is met, and `NoMemory` otherwise.
     pub fn add_arc(&mut self, arc: NetArc) -> Result<(), BuildError>
         requires place { arc.place < length self.old.lists.tokens }
         requires trans { arc.trans < length self.old.lists.trans }

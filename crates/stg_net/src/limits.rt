@@ -6,9 +6,13 @@
 pub struct Limits {
     /// Bytes of a text.
     pub bytes: u32,
+    /// Signals.
     pub signals: u32,
+    /// Transitions.
     pub trans: u32,
+    /// Places.
     pub places: u32,
+    /// Arcs, each direction for itself.
     pub arcs: u32,
     /// The weight of an arc and the tokens of a place.
     pub weight: u32,

@@ -77,8 +77,8 @@ impl Net {
         self.arcs.as_slice()
     }
 
-    /// Makes the net that a component sees, where it owns the first of these signals, and other
-    /// components know the second: an internal signal that it shares with others is an output.
+    /// Makes the net that a component shows: the signals of `own` keep their kinds, an internal one
+    /// that is in `shared` too is an output, and every other signal is an input.
     pub fn component(&self, alloc: Global, own: &[u32], shared: &[u32]) -> Result<Net, NoMemory>
         ensures value { IfOk result (λ n. n ≡ lists.component own.now shared.now self.now) }
         ensures within { IfOk result (λ n. (l : Limits) → IsWithin l self.now → IsWithin l n) }
@@ -93,7 +93,8 @@ impl Net {
     }
 }
 
-fn is_among(numbers: &[u32], s: usize) -> bool
+/// Whether the number is one of these.
+pub fn is_one_of(numbers: &[u32], s: usize) -> bool
     ensures { result ≡ is_one_of numbers.now s }
 {
     numbers.iter().any(|k| *k as usize == s)
@@ -112,9 +113,9 @@ fn share(kind: Kind) -> Kind
 fn show_kind(own: &[u32], shared: &[u32], s: usize, kind: Kind) -> Kind
     ensures { result ≡ kind_shown own.now shared.now s kind }
 {
-    if !is_among(own, s) {
+    if !is_one_of(own, s) {
         Kind::Input
-    } else if is_among(shared, s) {
+    } else if is_one_of(shared, s) {
         share(kind)
     } else {
         kind
@@ -131,9 +132,7 @@ fn show_signals(
 {
     let mut list = Seq::new(alloc);
     for (s, signal) in signals.iter().enumerate() {
-        let name = Seq::from_slice(alloc, signal.name.as_slice())?;
-        let kind = show_kind(own, shared, s, signal.kind);
-        list.push(Signal { name, kind })?;
+        list.push(signal.copy_as(alloc, show_kind(own, shared, s, signal.kind))?)?;
     }
     Ok(list)
 }

@@ -1,14 +1,14 @@
 //! Nets in the order in which they are written.
 
-ghost use Rattle.std.specs.Prelude.{◌≡◌, ◌==◌, ℕ, ◌+◌, ◌<◌, ◌≤◌, ◌^◌, ◌++◌, length, map, All, slice_index, IfOk, OnOk};
+ghost use Rattle.std.specs.Prelude.{◌≡◌, ◌==◌, ℕ, ◌+◌, ◌<◌, ◌≤◌, ◌^◌, ◌++◌, length, map, All, AllPairs, slice_index, IfOk, OnOk};
 ghost use Rattle.stg_net.specs.declared.limits.Limits.{Limits};
 ghost use Rattle.stg_net.specs.declared.arc.NetArc.{NetArc};
-ghost use Rattle.stg_net.specs.Net.{IsNet, IsWithin, signal_at, is_kind};
+ghost use Rattle.stg_net.specs.Net.{IsBefore, IsWithin, signal_at, is_kind};
 ghost use Rattle.stg_net.specs.Names.{IsWellNamed};
-ghost use Rattle.stg_net.specs.Ordered.{listed_below, numbers_with, numbers_by, signals_of_kind, signal_order, lowered, first_giver, place_order, new_number, with_signal_number, with_place_number, arcs_at, arcs_moved};
+ghost use Rattle.stg_net.specs.Ordered.{listed_below, signals_of_kind, signal_order, lowered, first_giver, place_order, new_number, with_signal_number, with_place_number, arcs_at, arcs_moved};
 ghost use Rattle.stg_net.specs.Ordered as lists;
 
-use crate::{Kind, Net, NetArc, NoMemory, Nums, Seq, Signal, TransName};
+use crate::{Kind, Net, NetArc, NoMemory, Nums, Seq, Signal, TransName, numbers_below};
 use std::alloc::Global;
 
 /// Makes the same net with its signals and places in the order in which they are written.
@@ -66,16 +66,13 @@ fn pick_signals(alloc: Global, signals: &[Signal], order: &[u32]) -> Result<Seq<
     let mut list = Seq::new(alloc);
     for s in order {
         let signal = &signals[*s as usize];
-        let name = Seq::from_slice(alloc, signal.name.as_slice())?;
-        list.push(Signal {
-            name,
-            kind: signal.kind,
-        })?;
+        list.push(signal.copy_as(alloc, signal.kind)?)?;
     }
     Ok(list)
 }
 
-fn renumber(order: &[u32], old: u32) -> usize
+/// Finds where the number stands in the order; at its end where it doesn't.
+pub fn renumber(order: &[u32], old: u32) -> usize
     ensures value { result ≡ new_number order.now old }
     ensures within { result ≤ length order.now }
 {
@@ -120,35 +117,23 @@ fn find_givers(alloc: Global, net: &Net) -> Result<Nums, NoMemory>
     Ok(keys)
 }
 
-fn push_places(order: &mut Nums, keys: &[u32], t: u32) -> Result<(), NoMemory>
-    requires { length keys.now < 2 ^ 32 }
-    ensures { OnOk result (order.new ≡ order.old ++ numbers_with (slice_index keys.now) (length keys.now) t) }
+// A sort asks for the keys of places alone, and each place has one.
+fn key_of(keys: &[u32], p: u32) -> u32
+    ensures { result ≡ slice_index keys.now p }
 {
-    for p in 0..keys.len() as u32 {
-        if keys[p as usize] == t {
-            order.push(p)?;
-        }
+    match keys.get(p as usize) {
+        Some(key) => *key,
+        None => 0,
     }
-    Ok(())
-}
-
-fn list_places(alloc: Global, keys: &[u32], none: u32) -> Result<Nums, NoMemory>
-    requires { length keys.now < 2 ^ 32 }
-    ensures { IfOk result (λ order. order ≡ numbers_by (slice_index keys.now) (length keys.now) (none + 1)) }
-{
-    let mut order = Seq::new(alloc);
-    for t in 0..none {
-        push_places(&mut order, keys, t)?;
-    }
-    push_places(&mut order, keys, none)?;
-    Ok(order)
 }
 
 fn order_places(alloc: Global, net: &Net) -> Result<Nums, NoMemory>
     ensures { IfOk result (λ order. order ≡ place_order net.now) }
 {
     let keys = find_givers(alloc, net)?;
-    list_places(alloc, keys.as_slice(), net.trans().len() as u32)
+    let mut order = numbers_below(alloc, net.tokens().len() as u32)?.into_vec();
+    order.sort_by_key(|p| key_of(keys.as_slice(), *p))?;
+    Ok(Seq::from_vec(order))
 }
 
 fn pick_tokens(alloc: Global, tokens: &[u32], order: &[u32]) -> Result<Nums, NoMemory>
@@ -162,24 +147,33 @@ fn pick_tokens(alloc: Global, tokens: &[u32], order: &[u32]) -> Result<Nums, NoM
     Ok(list)
 }
 
-fn push_arcs(list: &mut Seq<NetArc>, arcs: &[NetArc], old: u32, place: u32) -> Result<(), NoMemory>
-    ensures { OnOk result (list.new ≡ list.old ++ map (with_place_number place) (arcs_at arcs.now old)) }
+// The arcs of a place stand together.
+fn arcs_of(arcs: &[NetArc], place: u32) -> &[NetArc]
+    requires { AllPairs IsBefore arcs.now }
+    ensures { result.now ≡ arcs_at arcs.now place }
+{
+    let start = arcs.partition_point(|arc| arc.place < place);
+    let rest = &arcs[start..];
+    &rest[..rest.partition_point(|arc| arc.place <= place)]
+}
+
+fn push_arcs(list: &mut Seq<NetArc>, arcs: &[NetArc], place: u32) -> Result<(), NoMemory>
+    ensures { OnOk result (list.new ≡ list.old ++ map (with_place_number place) arcs.now) }
 {
     for arc in arcs {
-        if arc.place == old {
-            list.push(NetArc { place, ..*arc })?;
-        }
+        list.push(NetArc { place, ..*arc })?;
     }
     Ok(())
 }
 
 fn move_arcs(alloc: Global, arcs: &[NetArc], order: &[u32]) -> Result<Seq<NetArc>, NoMemory>
-    requires { length order.now < 2 ^ 32 }
+    requires few { length order.now < 2 ^ 32 }
+    requires ordered { AllPairs IsBefore arcs.now }
     ensures { IfOk result (λ list. list ≡ listed_below (arcs_moved arcs.now order.now) (length order.now)) }
 {
     let mut list = Seq::new(alloc);
     for q in 0..order.len() as u32 {
-        push_arcs(&mut list, arcs, order[q as usize], q)?;
+        push_arcs(&mut list, arcs_of(arcs, order[q as usize]), q)?;
     }
     Ok(list)
 }

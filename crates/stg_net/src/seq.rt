@@ -1,6 +1,7 @@
 //! The list type of all crates.
 
-ghost use Rattle.std.specs.Prelude.{◌≡◌, [], ◌∷◌, ◌++◌, ◌<◌, ◌↔◌, length, slice_get, slice_set, slice_index_or, IsTrue, IfOk, OnOk, OnErr, OnSome};
+ghost use Rattle.std.specs.Prelude.{◌≡◌, [], ◌∷◌, ◌++◌, ◌<◌, ◌↔◌, length, slice_get, slice_set, IsTrue, IfOk, OnOk, OnErr, OnSome};
+ghost use Rattle.std.specs.List.{range_with_len};
 ghost use Rattle.std.specs.Option.{option_copied};
 
 use crate::NoMemory;
@@ -140,4 +141,15 @@ impl<T: Eq> Eq for Seq<T> {
     ghost use Rattle.std.specs.Cmp.Lexicographic.{lists_equiv};
 
     ghost laws = { lists_equiv T.Eq.laws };
+}
+
+/// Lists the numbers below a count, in ascending order.
+pub fn numbers_below(alloc: Global, count: u32) -> Result<Nums, NoMemory>
+    ensures { IfOk result (λ numbers. numbers ≡ range_with_len 0 count) }
+{
+    let mut numbers = Seq::new(alloc);
+    for k in 0..count {
+        numbers.push(k)?;
+    }
+    Ok(numbers)
 }

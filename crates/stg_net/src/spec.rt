@@ -9,7 +9,9 @@ use std::marker::Model;
 /// The name of a place: its own, or the two transitions between which it stands.
 #[derive(Debug, Drop)]
 pub enum PlaceName {
+    /// Its own name.
     Named(Text),
+    /// The numbers of the transition that gives to it and of the one that takes from it.
     Between { from: u32, to: u32 },
 }
 

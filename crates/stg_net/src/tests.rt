@@ -97,3 +97,15 @@ fn orders_a_net_and_shows_it_to_a_component(rt: HostRuntime) -> Result<(), Fail>
     assert_eq!(rt; part.signals().len(), 1);
     Ok(())
 }
+
+#[test]
+fn finds_signals_and_sets_tokens(rt: HostRuntime) -> Result<(), Fail> {
+    let mut builder = NetBuilder::new(rt.alloc(), ONE_OF_EACH);
+    builder.add_signal(b"a", Kind::Input)?;
+    assert_eq!(rt; builder.find_signal(b"a"), Some(0));
+    assert_eq!(rt; builder.find_signal(b"b"), None);
+    builder.add_place(1)?;
+    builder.set_tokens(0, 0);
+    assert_eq!(rt; builder.finish()?.tokens(), [0].as_slice());
+    Ok(())
+}

@@ -1,6 +1,6 @@
 //! Transitions: their full names and how these are written.
 
-ghost use Rattle.std.specs.Prelude.{◌≡◌, ◌<◌, ◌++◌, ◌∷◌, [], length, IfOk, OnOk};
+ghost use Rattle.std.specs.Prelude.{◌≡◌, ◌<◌, ◌++◌, length, IfOk, OnOk};
 ghost use Rattle.stg_net.specs.Words.{sign_of, trans_word, index_text};
 
 use crate::{Net, NoMemory, Seq, Text};
@@ -10,18 +10,24 @@ use std::alloc::Global;
 /// How a signal changes.
 #[derive(Clone, Copy, Debug, PartialEq, Eq, Hash)]
 pub enum Edge {
+    /// From 0 to 1.
     Rise,
+    /// From 1 to 0.
     Fall,
+    /// From either to the other.
     Toggle,
 }
 
-/// The full name of a transition. `signal` is the number of a signal of its net.
+/// The full name of a transition.
 ///
 /// Two transitions have the same label where signal and edge are equal.
 #[derive(Clone, Copy, Debug, PartialEq, Eq, Hash)]
 pub struct TransName {
+    /// The number of a signal of its net.
     pub signal: u32,
+    /// What it does to the signal.
     pub edge: Edge,
+    /// Tells transitions of one label apart; 0 is written as none.
     pub index: u32,
 }
 

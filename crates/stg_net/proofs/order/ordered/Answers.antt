@@ -1,5 +1,5 @@
-use Rattle.std.proofs.Common.{◌≡◌, ◌<◌, ℕ, List, length, All, rules, ap, sym, subst, arith}
-use Rattle.stg_net.specs.Net.{IsNet, IsWithin}
+use Rattle.std.proofs.Common.{◌≡◌, ◌<◌, ℕ, List, length, All, AllPairs, rules, ap, sym, subst, arith}
+use Rattle.stg_net.specs.Net.{IsNet, IsBefore, IsWithin}
 use Rattle.stg_net.specs.Names.{IsWellNamed}
 use Rattle.stg_net.specs.Ordered.{signal_order, place_order, ordered}
 use Rattle.stg_net.proofs.Orders.{signal_order-IsOrder, place_order-IsOrder, length-order, order_below}
@@ -28,8 +28,11 @@ pick_tokens-requires c =
     moved c.as_slice-3.result.now (place_order n) (length c.tokens.result.now) (length n.tokens) (grind arith) (ap length c.tokens.ensures.tokens)
     (order_below (length n.tokens) (place_order n) (place_order-IsOrder n))
 
-pub move_arcs-requires : goal.move_arcs-requires
-move_arcs-requires c =
+pub move_arcs-requires-clause-ordered : goal.move_arcs-requires-clause-ordered
+move_arcs-requires-clause-ordered c = subst (AllPairs IsBefore) (sym c.arcs.ensures.arcs) c.arcs.ensures.net.ordered
+
+pub move_arcs-requires-clause-few : goal.move_arcs-requires-clause-few
+move_arcs-requires-clause-few c =
     let n = c.args.net.now in
     let same : c.as_slice-4.result.now ≡ place_order n = grind arith in
     omega (arith, ap length same, length-order (length n.tokens) (place_order n) (place_order-IsOrder n), c.signals.ensures.net.places_fit)
