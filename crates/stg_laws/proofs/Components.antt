@@ -8,22 +8,25 @@ use Rattle.stg_net.specs.declared.signal.Kind.{Kind}
 use Rattle.stg_net.specs.declared.signal.Kind.TheVariants.{Input, Output, Internal}
 use Rattle.stg_net.specs.declared.signal.Signal.{Signal}
 use Rattle.stg_net.specs.declared.trans.TransName.{TransName}
-use Rattle.stg_net.specs.Net.{NetLists, IsNet, signal_at, is_kind}
+use Rattle.stg_net.specs.Net.{NetLists, IsNet, signal_at, trans_at, is_kind}
 use Rattle.stg_net.specs.Graph.{FullName, is_among}
 use Rattle.stg_net.specs.Initial.{place_of, full_name, graph_of}
 use Rattle.stg_net.specs.Component.{is_one_of, shared_kind, kind_shown, shown, component}
 use Rattle.stg_net.specs.Ordered.{signal_order, new_number, ordered}
 use Rattle.stg_net.proofs.Orders.{signal_order-IsOrder, order_below, new_number-below}
+use Rattle.stg_net.proofs.Pairs.{same_place}
+use Rattle.stg_net.proofs.Signals.{one_signal}
+use Rattle.stg_net.proofs.Weights.{full_name_at-graph_of, live_below}
 use Rattle.stg_net.proofs.Shown.{length-shown, shown-names, component-IsNet}
 use Rattle.stg_laws.specs.Deterministic.{HasNoDummy}
 use Rattle.stg_laws.specs.Faithful.{IsFaithful}
 use Rattle.stg_laws.specs.Laws.{DriveTheSame}
 use Rattle.stg_laws.specs.Stgs.{HasDistinctNames, IsStg, stg_of, is_driven, names_where}
 use Rattle.stg_laws.proofs.Cuts.{AllKnown}
-use Rattle.stg_laws.proofs.Declaring.{Declares, declared, found, same_place}
+use Rattle.stg_laws.proofs.Declaring.{Declares, declared, found}
 use Rattle.stg_laws.proofs.Deriving.{derivation_is_faithful}
 use Rattle.stg_laws.proofs.Keeping.{Keeps}
-use Rattle.stg_laws.proofs.Nets.{no_signal, signal_name-at, trans_at, full_name_at-net, live_below}
+use Rattle.stg_laws.proofs.Nets.{no_signal, signal_name-at}
 use Rattle.stg_laws.proofs.Ordering.{order_renumbers, same_signal}
 use Rattle.stg_laws.proofs.Renumbering.{renumbered_keeps, renumbered_no_dummy}
 use Rattle.stg_laws.proofs.Wiring.{is_any, net_knows, net_known, ShowsGroup}
@@ -35,17 +38,17 @@ module _ (n : NetLists) (net : IsNet n) where
       let second = live_below n u (rw b refl) in
       let x = trans_at n.trans t in
       let y = trans_at n.trans u in
-      let f : Some (full_name n x) ≡ Some name = sym (full_name_at-net n t first) ∙ a in
-      let h : Some (full_name n y) ≡ Some name = sym (full_name_at-net n u second) ∙ b in
+      let f : Some (full_name n x) ≡ Some name = sym (full_name_at-graph_of n t first) ∙ a in
+      let h : Some (full_name n y) ≡ Some name = sym (full_name_at-graph_of n u second) ∙ b in
       let same : full_name n x ≡ full_name n y = cc in
-      let signal = same_place (λ (s : Signal). s.name) n.signals net.signal_names no_signal x.signal y.signal (net.trans_signals t (trans_at [] t) first) (net.trans_signals u (trans_at [] u) second) (ap (λ (m : FullName). m.signal) same) in
+      let signal = one_signal n x.signal y.signal net (net.trans_signals t (trans_at [] t) first) (net.trans_signals u (trans_at [] u) second) (ap (λ (m : FullName). m.signal) same) in
       same_place (λ (s : TransName). s) n.trans net.trans_names (trans_at [] t) t u first second (λ i. record { signal = signal i; edge = (same i).edge; index = (same i).index })
 
   pub net_all_known : AllKnown (graph_of n)
   net_all_known t live =
       let below = live_below n t live in
       let x = trans_at n.trans t in
-      rw (full_name_at-net n t below) (net_knows n (full_name n x).signal x.signal (record { there = net.trans_signals t (trans_at [] t) below; passes = refl; named = refl }))
+      rw (full_name_at-graph_of n t below) (net_knows n (full_name n x).signal x.signal (record { there = net.trans_signals t (trans_at [] t) below; passes = refl; named = refl }))
 
   pub net_no_dummy : HasNoDummy (graph_of n)
   net_no_dummy t dummy = false≢true (sym dummy.hidden ∙ net_all_known t dummy.live)

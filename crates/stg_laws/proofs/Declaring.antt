@@ -1,12 +1,13 @@
 -- Which signals a net knows and drives, told by their numbers.
-use Rattle.std.proofs.Common.{◌≡◌, ◌≢◌, ℕ, zero, suc, ◌<◌, List, [], ◌∷◌, map, filter, length, get_or, AllPairs, Bool, true, false, cond, ◌||◌, IsTrue, refl, sym, ◌∙◌, ap, inl, inr, arith}
+use Rattle.std.proofs.Common.{◌≡◌, ℕ, zero, suc, ◌<◌, List, [], ◌∷◌, map, filter, length, Bool, true, false, cond, ◌||◌, IsTrue, refl, sym, ◌∙◌, ap, arith}
 use Rattle.std.specs.Str.{bytes_eq}
-use Rattle.std.proofs.lemmas.Bool.{cases_order, false≢true}
+use Rattle.std.proofs.lemmas.Bool.{or_right, false≢true}
 use Rattle.std.proofs.lemmas.Slice.Eq.{bytes_eq-Decides}
 use Rattle.stg_net.specs.declared.signal.Kind.{Kind}
 use Rattle.stg_net.specs.declared.signal.Signal.{Signal}
 use Rattle.stg_net.specs.Net.{NetLists, IsNet, signal_at}
 use Rattle.stg_net.specs.Graph.{is_among}
+use Rattle.stg_net.proofs.Pairs.{same_place}
 use Rattle.stg_laws.specs.Stgs.{names_where}
 
 -- the k-th signal has the name, and its kind passes the test
@@ -45,29 +46,14 @@ found test (s ∷ signals) name zero d =
     rw d.passes (rw same refl)
 found test (s ∷ signals) name (suc k) d = go (test s.kind) (found test signals name k (record { there = omega (arith, d.there); passes = d.passes; named = d.named }))
   where
-    either : (b c : Bool) → c ≡ true → (b || c) ≡ true
-    either true c e = refl
-    either false c e = e
-
     go : (b : Bool) → IsTrue (is_among (names_where test signals) name) → IsTrue (is_among (map (λ (x : Signal). x.name) (cond b (s ∷ filter (λ (x : Signal). test x.kind) signals) (filter (λ (x : Signal). test x.kind) signals))) name)
-    go true rest = either (bytes_eq s.name name) (is_among (names_where test signals) name) rest
+    go true rest = or_right (bytes_eq s.name name) (is_among (names_where test signals) name) rest
     go false rest = rest
 
 -- the names that a net's graph knows are those of all its signals
 pub signal_names-where : (signals : List Signal) → map (λ (s : Signal). s.name) signals ≡ names_where (λ kind. true) signals
 signal_names-where [] = refl
 signal_names-where (s ∷ signals) = ap (λ names. s.name ∷ names) (signal_names-where signals)
-
-module _ {X Y : Type 0} (f : X → Y) (xs : List X) (apart : AllPairs (λ (x y : X). f x ≢ f y) xs) (d : X) where
-  -- where images differ, equal images stand at one place
-  pub same_place : (i j : ℕ) → i < length xs → j < length xs → f (get_or xs i d) ≡ f (get_or xs j d) → i ≡ j
-  same_place i j first second same = elim (cases_order i j) [
-    | inl equal ↦ equal
-    | inr rest ↦ elim rest [
-      | inl lower ↦ absurd (apart i j d lower second same)
-      | inr higher ↦ absurd (apart j i d higher first (sym same))
-    ]
-  ]
 
 -- of one name there is one signal
 pub one_declared : (n : NetLists) → IsNet n → (test other : Kind → Bool) (name : List ℕ) (j k : ℕ) → Declares n.signals test name j → Declares n.signals other name k → j ≡ k

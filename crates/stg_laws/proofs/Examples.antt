@@ -1,43 +1,16 @@
--- The definitions of meaning computed on the C-element's net.
-use Rattle.std.proofs.Common.{◌≡◌, ℕ, ◌+◌, ◌-◌, ◌*◌, zero, suc, List, [], ◌∷◌, Some, true, false, refl, sym, ◌∙◌, ap, codes, slice_index}
+-- The definitions of meaning computed on the net of a C-element, and on one with two equal labels.
+use Rattle.std.proofs.Common.{◌≡◌, ℕ, ◌+◌, ◌-◌, ◌*◌, zero, suc, List, [], ◌∷◌, Some, refl, sym, ◌∙◌, ap, codes, slice_index}
 use Rattle.std.proofs.lemmas.Bool.{false≢true}
-use Rattle.stg_net.specs.declared.arc.NetArc.{NetArc}
-use Rattle.stg_net.specs.declared.signal.Kind.TheVariants.{Input, Output}
+use Rattle.stg_net.specs.declared.signal.Kind.TheVariants.{Input}
 use Rattle.stg_net.specs.declared.trans.Edge.{Edge}
 use Rattle.stg_net.specs.declared.trans.Edge.TheVariants.{Rise, Fall, Toggle}
-use Rattle.stg_net.specs.declared.trans.TransName.{TransName}
 use Rattle.stg_net.specs.Graph.{Graph, FullName, full_name_at}
 use Rattle.stg_net.specs.Initial.{graph_of}
 use Rattle.stg_net.specs.Net.{NetLists}
+use Rattle.stg_net.proofs.Examples.{named, celem}
 use Rattle.stg_laws.specs.Cuts.{Label, label_of, cut, trace}
 use Rattle.stg_laws.specs.Deterministic.{IsClean, HasNoDummy, IsDeterministic}
 use Rattle.stg_laws.specs.Stgs.{stg_of}
-
-abbrev named : ℕ → Edge → TransName
-named s edge = record { signal = s; edge = edge; index = 0 }
-
-abbrev into : ℕ → ℕ → NetArc
-into p t = record { place = p; trans = t; into = true; weight = 1 }
-
-abbrev from : ℕ → ℕ → NetArc
-from p t = record { place = p; trans = t; into = false; weight = 1 }
-
--- its transitions are a+ c+ b+ a- b- c-
-abbrev celem : NetLists
-celem = record {
-  signals = record { name = codes "a"; kind = Input } ∷ record { name = codes "b"; kind = Input } ∷ record { name = codes "c"; kind = Output } ∷ [];
-  trans = named 0 Rise ∷ named 2 Rise ∷ named 1 Rise ∷ named 0 Fall ∷ named 1 Fall ∷ named 2 Fall ∷ [];
-  tokens = 0 ∷ 0 ∷ 0 ∷ 0 ∷ 0 ∷ 0 ∷ 1 ∷ 1 ∷ [];
-  arcs =
-      into 0 0 ∷ from 0 1
-      ∷ from 1 1 ∷ into 1 2
-      ∷ into 2 1 ∷ from 2 3
-      ∷ into 3 1 ∷ from 3 4
-      ∷ into 4 3 ∷ from 4 5
-      ∷ into 5 4 ∷ from 5 5
-      ∷ from 6 0 ∷ into 6 5
-      ∷ from 7 2 ∷ into 7 5 ∷ [];
-}
 
 abbrev full : List ℕ → Edge → ℕ → FullName
 full signal edge index = record { signal = signal; edge = edge; index = index }

@@ -1,5 +1,5 @@
 -- What a safe step keeps: the one thing that each kind of step owes to the meaning of components.
-use Rattle.std.proofs.Common.{◌↔◌, List, ◌∙◌}
+use Rattle.std.proofs.Common.{◌↔◌, List}
 use Rattle.stg_net.specs.Graph.{Graph, FullName}
 use Rattle.stg_laws.specs.Cuts.{IsNameList}
 use Rattle.stg_laws.specs.Deterministic.{IsClean}
@@ -12,11 +12,3 @@ pub record Keeps (g h : Graph) : Type 0 where
   pub clean : IsClean g → IsClean h
   pub distinct : HasDistinctNames g → HasDistinctNames h
   pub known : SameSignals h.known g.known
-
-pub keeps_then : (g k h : Graph) → Keeps g k → Keeps k h → Keeps g h
-keeps_then g k h a b = record {
-  names = λ names. (λ l. (b.names names).0 ((a.names names).0 l), λ l. (a.names names).1 ((b.names names).1 l));
-  clean = λ c. b.clean (a.clean c);
-  distinct = λ c. b.distinct (a.distinct c);
-  known = λ s. b.known s ∙ a.known s;
-}

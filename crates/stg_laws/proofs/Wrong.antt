@@ -1,4 +1,4 @@
--- Wrong decompositions: each breaks one clause of the definition. The clause on the initial markings always holds, since the run without transitions reaches them.
+-- Wrong decompositions: each breaks one clause of the definition. The clause on the initial markings always holds, since the run without transitions reaches them, and so does that on an input which no component knows, since it is seen in no cut.
 use Rattle.std.proofs.Common.{◌≡◌, ◌≤◌, ◌<◌, ℕ, zero, suc, List, [], ◌∷◌, Option, Some, None, refl, codes, arith}
 use Rattle.std.proofs.lemmas.Bool.{false≢true}
 use Rattle.stg_net.specs.declared.trans.Edge.TheVariants.{Rise}

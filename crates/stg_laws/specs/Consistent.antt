@@ -10,7 +10,7 @@ use Rattle.stg_laws.specs.Cuts.{cut}
 abbrev pub edges_of : Graph → List ℕ → List ℕ → List Edge
 edges_of g signal run = map (λ (name : FullName). name.edge) (cut g (signal ∷ []) run)
 
--- no edge stands beside itself
+-- No edge stands beside itself, and no toggle beside a toggle. So the proof of `law_consistent` doesn't use its premise `HasNoToggle`.
 abbrev pub Alternates : List Edge → Type 0
 Alternates [] = ⊤
 Alternates (e ∷ []) = ⊤

@@ -1,18 +1,17 @@
 -- Groups of a net's signals: which are in conflict, which stand together, and what a group knows.
-use Rattle.std.specs.Prelude.{◌≡◌, ◌↔◌, ℕ, Bool, not, ◌&&◌, ◌||◌, ◌==◌, List, [], ◌∷◌, Contains, length, map, slice_index, slice_index_or, IsTrue}
+use Rattle.std.specs.Prelude.{◌≡◌, ◌↔◌, ℕ, Bool, not, ◌&&◌, ◌||◌, ◌==◌, List, [], ◌∷◌, Contains, length, map, slice_index, IsTrue}
 use Rattle.std.specs.List.{list_any, range_with_len}
 use Rattle.std.specs.List.Sorted.{IsStrictlyIncreasing}
-use Rattle.stg_net.specs.declared.trans.Edge.TheVariants.{Rise}
 use Rattle.stg_net.specs.declared.signal.Signal.{Signal}
 use Rattle.stg_net.specs.declared.arc.NetArc.{NetArc}
-use Rattle.stg_net.specs.Net.{NetLists, signal_at}
+use Rattle.stg_net.specs.Net.{NetLists, signal_at, trans_at}
 use Rattle.stg_net.specs.Component.{is_one_of}
 use Rattle.stg_net.specs.Ordered.{numbers_where}
 use Rattle.stg_laws.specs.Stgs.{is_driven}
 
 -- the number of the signal of an arc's transition
 abbrev pub signal_of : NetLists → NetArc → ℕ
-signal_of n a = (slice_index_or n.trans a.trans (record { signal = 0; edge = Rise; index = 0 })).signal
+signal_of n a = (trans_at n.trans a.trans).signal
 
 -- whether the signal of that number is an output or an internal signal
 abbrev pub is_driven_at : List Signal → ℕ → Bool
@@ -26,6 +25,7 @@ takes_from n s p = list_any (λ (a : NetArc). not a.into && (a.place == p) && (s
 abbrev pub is_at : NetLists → ℕ → ℕ → Bool
 is_at n s p = list_any (λ (a : NetArc). (a.place == p) && (signal_of n a == s)) n.arcs
 
+-- whether transitions of both take from one place
 abbrev pub share_place : NetLists → ℕ → ℕ → Bool
 share_place n x y = list_any (λ p. takes_from n x p && takes_from n y p) (range_with_len 0 (length n.tokens))
 

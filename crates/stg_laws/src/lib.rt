@@ -9,7 +9,7 @@ pub fn law_decomposes()
     ensures { FaithfulPartsAreCorrect }
 {}
 
-/// A net in order means the same.
+/// A net in order is the same graph with other numbers, and drives the same signals.
 pub fn law_ordered()
     ensures graph { OrderRenumbers }
     ensures signals { OrderDrivesTheSame }
