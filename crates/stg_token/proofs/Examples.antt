@@ -1,76 +1,40 @@
 -- The token game of a C-element: its transitions are a+ c+ b+ a- b- c-.
-use Rattle.std.proofs.Common.{◌≡◌, ◌≤◌, ℕ, zero, suc, arith, [], ◌∷◌, true, false, List, map, refl}
-use Rattle.stg_net.specs.declared.signal.Kind.TheVariants.{Input, Output}
-use Rattle.stg_net.specs.declared.trans.Edge.{Edge}
-use Rattle.stg_net.specs.declared.trans.Edge.TheVariants.{Rise, Fall}
-use Rattle.stg_net.specs.declared.trans.TransName.{TransName}
-use Rattle.stg_net.specs.declared.arc.NetArc.{NetArc}
-use Rattle.stg_net.specs.Net.{NetLists}
-use Rattle.stg_net.specs.Graph.{takes, tokens_at}
+use Rattle.std.proofs.Common.{◌≡◌, ◌≤◌, ℕ, Bool, nat_le, arith, [], ◌∷◌, true, false, List, map, refl, zero-add, sym, ap, ◌∙◌, inl, inr}
+use Rattle.std.specs.List.{list_all, range_with_len}
+use Rattle.std.proofs.lemmas.Bool.{cases_lt, leb-true}
+use Rattle.std.proofs.lemmas.List.FromFn.{get_or-range_with_len}
+use Rattle.std.proofs.lemmas.List.Sums.{AllPass-from_list_all}
+use Rattle.stg_net.specs.Graph.{IsTrans, taken_by, takes, tokens_at}
 use Rattle.stg_net.specs.Run.{IsEnabled, fired}
 use Rattle.stg_net.specs.Initial.{graph_of}
-use Rattle.std.specs.List.{list_all}
+use Rattle.stg_net.proofs.Examples.{celem}
+use Rattle.stg_net.proofs.Weights.{place_at-past}
 use Rattle.stg_token.specs.Pass.{is_held}
 
-abbrev named : ℕ → Edge → TransName
-named s edge = record { signal = s; edge = edge; index = 0 }
-
-abbrev into : ℕ → ℕ → NetArc
-into p t = record { place = p; trans = t; into = true; weight = 1 }
-
-abbrev from : ℕ → ℕ → NetArc
-from p t = record { place = p; trans = t; into = false; weight = 1 }
-
-abbrev celem : NetLists
-celem = record {
-  signals = record { name = 97 ∷ []; kind = Input } ∷ record { name = 98 ∷ []; kind = Input } ∷ record { name = 99 ∷ []; kind = Output } ∷ [];
-  trans = named 0 Rise ∷ named 2 Rise ∷ named 1 Rise ∷ named 0 Fall ∷ named 1 Fall ∷ named 2 Fall ∷ [];
-  tokens = 0 ∷ 0 ∷ 0 ∷ 0 ∷ 0 ∷ 0 ∷ 1 ∷ 1 ∷ [];
-  arcs =
-      into 0 0 ∷ from 0 1
-      ∷ from 1 1 ∷ into 1 2
-      ∷ into 2 1 ∷ from 2 3
-      ∷ into 3 1 ∷ from 3 4
-      ∷ into 4 3 ∷ from 4 5
-      ∷ into 5 4 ∷ from 5 5
-      ∷ from 6 0 ∷ into 6 5
-      ∷ from 7 2 ∷ into 7 5 ∷ [];
-}
-
 abbrev places : List ℕ
-places = 0 ∷ 1 ∷ 2 ∷ 3 ∷ 4 ∷ 5 ∷ 6 ∷ 7 ∷ []
+places = range_with_len 0 8
+
+-- a transition is enabled where the test at each place says so
+enabled_by : (t : ℕ) (m : ℕ → ℕ) → IsTrans (graph_of celem) t → list_all (λ p. nat_le (takes (graph_of celem) t p) (m p)) places ≡ true → IsEnabled (graph_of celem) m t
+enabled_by t m live e = record {
+  live = live;
+  covered = λ p. elim (cases_lt p 8) [
+    | inl below ↦
+        let test : ℕ → Bool = λ q. nat_le (takes (graph_of celem) t q) (m q) in
+        leb-true _ _ (ap test (sym (get_or-range_with_len 0 8 p 0 below ∙ zero-add p)) ∙ AllPass-from_list_all test places e p 0 below)
+    | inr past ↦ omega (arith, ap (taken_by t) (place_at-past celem (0 ∷ 1 ∷ 2 ∷ []) p past))
+  ];
+}
 
 abbrev first : ℕ → ℕ
 first = tokens_at (graph_of celem)
 
 -- at first a+ and b+ are enabled, and c+ isn't
 a_enabled : IsEnabled (graph_of celem) first 0
-a_enabled = record { live = refl; covered = covered }
-  where
-    covered : (p : ℕ) → takes (graph_of celem) 0 p ≤ first p
-    covered zero = omega arith
-    covered (suc zero) = omega arith
-    covered (suc (suc zero)) = omega arith
-    covered (suc (suc (suc zero))) = omega arith
-    covered (suc (suc (suc (suc zero)))) = omega arith
-    covered (suc (suc (suc (suc (suc zero))))) = omega arith
-    covered (suc (suc (suc (suc (suc (suc zero)))))) = omega arith
-    covered (suc (suc (suc (suc (suc (suc (suc zero))))))) = omega arith
-    covered (suc (suc (suc (suc (suc (suc (suc (suc p)))))))) = omega arith
+a_enabled = enabled_by 0 first refl refl
 
 b_enabled : IsEnabled (graph_of celem) first 2
-b_enabled = record { live = refl; covered = covered }
-  where
-    covered : (p : ℕ) → takes (graph_of celem) 2 p ≤ first p
-    covered zero = omega arith
-    covered (suc zero) = omega arith
-    covered (suc (suc zero)) = omega arith
-    covered (suc (suc (suc zero))) = omega arith
-    covered (suc (suc (suc (suc zero)))) = omega arith
-    covered (suc (suc (suc (suc (suc zero))))) = omega arith
-    covered (suc (suc (suc (suc (suc (suc zero)))))) = omega arith
-    covered (suc (suc (suc (suc (suc (suc (suc zero))))))) = omega arith
-    covered (suc (suc (suc (suc (suc (suc (suc (suc p)))))))) = omega arith
+b_enabled = enabled_by 2 first refl refl
 
 c_not_enabled : IsEnabled (graph_of celem) first 1 → ⊥
 c_not_enabled e = let few : 1 ≤ 0 = e.covered 0 in absurd (omega arith)
@@ -83,18 +47,7 @@ both_fired = refl
 
 -- after both it is
 c_enabled : IsEnabled (graph_of celem) after_both 1
-c_enabled = record { live = refl; covered = covered }
-  where
-    covered : (p : ℕ) → takes (graph_of celem) 1 p ≤ after_both p
-    covered zero = omega arith
-    covered (suc zero) = omega arith
-    covered (suc (suc zero)) = omega arith
-    covered (suc (suc (suc zero))) = omega arith
-    covered (suc (suc (suc (suc zero)))) = omega arith
-    covered (suc (suc (suc (suc (suc zero))))) = omega arith
-    covered (suc (suc (suc (suc (suc (suc zero)))))) = omega arith
-    covered (suc (suc (suc (suc (suc (suc (suc zero))))))) = omega arith
-    covered (suc (suc (suc (suc (suc (suc (suc (suc p)))))))) = omega arith
+c_enabled = enabled_by 1 after_both refl refl
 
 -- what the pass over the arcs computes
 held_first : map (λ t. list_all (is_held celem.tokens t) celem.arcs) (0 ∷ 1 ∷ 2 ∷ 3 ∷ 4 ∷ 5 ∷ []) ≡ true ∷ false ∷ true ∷ false ∷ false ∷ false ∷ []

@@ -1,18 +1,16 @@
 -- What a pass over the arcs of a net does to a marking, and what it tells of it.
-use Rattle.std.proofs.Common.{◌≡◌, ℕ, ◌+◌, ◌-◌, ◌<◌, ◌≤◌, ◌==◌, nat_le, Bool, true, false, cond, List, ◌∷◌, length, get_or, drop, All, is_some, refl, sym, ap, ◌∙◌, subst, arith, eq-eqb, inl, inr, get_or-set_same, get_or-set_other, length-set}
+use Rattle.std.proofs.Common.{◌≡◌, ℕ, ◌+◌, ◌-◌, ◌<◌, ◌≤◌, ◌==◌, nat_le, Bool, true, false, cond, List, length, get_or, drop, All, is_some, refl, sym, ap, ◌∙◌, subst, arith, eq-eqb, inl, inr, get_or-set_same, get_or-set_other, length-set}
 use Rattle.std.specs.List.{range_with_len}
 use Rattle.std.proofs.Math.ListN.{set}
 use Rattle.std.proofs.lemmas.Bool.{and_parts, cases_eq, cases_lt, cases_Bool, eqb-true, le-leb, leb-true, false≢true, false_from_ne_true}
 use Rattle.std.proofs.lemmas.List.{at_drop_more, get_or_default, get_or_past}
-use Rattle.stg_net.specs.declared.trans.Edge.TheVariants.{Rise}
-use Rattle.stg_net.specs.declared.trans.TransName.{TransName}
 use Rattle.stg_net.specs.declared.arc.NetArc.{NetArc}
 use Rattle.stg_net.specs.declared.limits.Limits.{Limits}
 use Rattle.stg_net.specs.Net.{NetLists, IsNet, IsWithin}
 use Rattle.stg_net.specs.Graph.{takes, tokens_at}
 use Rattle.stg_net.specs.Run.{IsEnabled, fired}
 use Rattle.stg_net.specs.Initial.{goes, joins, weight_of, graph_of}
-use Rattle.stg_net.proofs.Weights.{Joins, Joint, goes_same, goes_itself, joins_parts, joins_whole, share, share_here, share_none, weight_of-cons, weight_of-arc, weight_of-joint, takes-graph_of, gives-graph_of, tokens_at-initial, full_name_at-initial}
+use Rattle.stg_net.proofs.Weights.{Joins, Joint, goes_same, goes_itself, joins_parts, joins_whole, share, share_here, share_none, weight_of-cons, weight_of-arc, weight_of-joint, takes-graph_of, gives-graph_of, tokens_at-initial, full_name_at-graph_of}
 use Rattle.stg_token.specs.Pass.{goes_between, is_held, with_taken, with_given}
 
 goes_joins : (t : ℕ) (into : Bool) (a : NetArc) → goes_between t into a ≡ true → joins into t a.place a ≡ true
@@ -63,13 +61,6 @@ length-taken t a m = length-changed (λ x y. x - y) t false a m
 pub length-given : (t : ℕ) (a : NetArc) (m : List ℕ) → length (with_given t a m) ≡ length m
 length-given t a m = length-changed (λ x y. x + y) t true a m
 
--- where the place holds all that t takes, it holds what t takes by one arc
-pub held_first : (t : ℕ) (a : NetArc) (arcs : List NetArc) (m : List ℕ) → weight_of (a ∷ arcs) false t a.place ≤ get_or m a.place 0 → is_held m t a ≡ true
-held_first t a arcs m enough = elim (cases_Bool (goes_between t false a)) [
-  | inr e ↦ rw e refl
-  | inl e ↦ rw e (le-leb a.weight (get_or m a.place 0) (omega (arith, enough, weight_of-cons false t a.place a arcs, share_here false t a.place a (goes_joins t false a e))))
-]
-
 -- an enabled transition finds in the place of each of its arcs what it takes
 enabled_holds : (n : NetLists) (m : List ℕ) (t i : ℕ) (d : NetArc) → IsNet n → i < length n.arcs → IsEnabled (graph_of n) (λ p. get_or m p 0) t → is_held m t (get_or n.arcs i d) ≡ true
 enabled_holds n m t i d net inside enabled = holds (get_or n.arcs i d) (weight_of-arc false t (get_or n.arcs i d).place n.arcs i d net.ordered inside)
@@ -93,16 +84,13 @@ held_weight m t p a j held =
 -- where each arc's place holds what t takes by it, t is enabled
 pub held_enabled : (n : NetLists) (m : List ℕ) (t : ℕ) → IsNet n → t < length n.trans → ((i : ℕ) (d : NetArc) → i < length n.arcs → is_held m t (get_or n.arcs i d) ≡ true) → IsEnabled (graph_of n) (λ p. get_or m p 0) t
 held_enabled n m t net there held = record {
-  live = ap is_some (full_name_at-initial n (range_with_len 0 (length n.signals)) t none there);
+  live = ap is_some (full_name_at-graph_of n t there);
   covered = λ p. elim (cases_lt 0 (weight_of n.arcs false t p)) [
     | inr nothing ↦ omega (arith, nothing, takes-graph_of n t p net)
     | inl some ↦ covered p (weight_of-joint false t p n.arcs some)
   ];
 }
   where
-    none : TransName
-    none = record { signal = 0; edge = Rise; index = 0 }
-
     covered : (p : ℕ) → Joint n.arcs false t p → takes (graph_of n) t p ≤ get_or m p 0
     covered p j =
         let P : NetArc → Type 0 = λ a. is_held m t a ≡ true in

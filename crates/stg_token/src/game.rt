@@ -93,7 +93,7 @@ fn give_all(arcs: &[NetArc], m: &mut Nums, t: u32)
 pub fn fire(net: &Net, m: &mut Nums, t: u32)
     requires marking { length m.old ≡ length net.now.tokens }
     requires enabled { IsEnabled (graph_of net.now) (slice_index m.old) t }
-    requires fits { (p : ℕ) → fired (graph_of net.now) (slice_index m.old) t p ≤ 4294967295 }
+    requires fits { (p : ℕ) → fired (graph_of net.now) (slice_index m.old) t p < 2 ^ 32 }
     ensures marking { (p : ℕ) → slice_index m.new p ≡ fired (graph_of net.now) (slice_index m.old) t p }
     ensures kept { length m.new ≡ length m.old }
 {
