@@ -1,59 +1,27 @@
--- Two arcs of a net are rivals exactly where the net's graph has the clash.
-use Rattle.std.proofs.Common.{◌≡◌, ℕ, ◌<◌, ◌==◌, ◌&&◌, not, Bool, true, false, List, [], length, get_or, map, Option, Some, None, refl, sym, ap, ◌∙◌, subst, arith, zero-add, eq-eqb, inl, inr}
-use Rattle.std.specs.List.{range_with_len}
-use Rattle.std.specs.Str.{bytes_eq}
-use Rattle.std.proofs.lemmas.Bool.{and_parts, cases_order, eqb-true, false≢true}
+-- Two arcs of a net clash exactly where the net's graph has the clash.
+use Rattle.std.proofs.Common.{is_some, ◌≡◌, ℕ, ◌<◌, ◌==◌, ◌&&◌, not, true, false, List, [], length, get_or, Option, Some, None, refl, sym, ap, ◌∙◌, subst, arith, eq-eqb, inl, inr}
+use Rattle.std.proofs.lemmas.Bool.{and_parts, cases_order, eqb-true, not-true, false≢true}
 use Rattle.std.proofs.lemmas.Option.{same_Some}
-use Rattle.std.proofs.lemmas.List.Folds.{list_any_at}
-use Rattle.std.proofs.lemmas.List.FromFn.{get_or-map-range_with_len, length-map-range_with_len}
-use Rattle.std.proofs.lemmas.Slice.Eq.{bytes_eq-Decides}
-use Rattle.stg_net.specs.declared.trans.Edge.{Edge}
-use Rattle.stg_net.specs.declared.trans.Edge.TheVariants.{Rise, Fall, Toggle}
 use Rattle.stg_net.specs.declared.trans.TransName.{TransName}
 use Rattle.stg_net.specs.declared.arc.NetArc.{NetArc}
-use Rattle.stg_net.specs.Net.{NetLists, IsNet, signal_at, IsBefore as IsArcBefore}
-use Rattle.stg_net.specs.Graph.{Graph, has_signal_of, is_among, IsKnown, takes}
+use Rattle.stg_net.specs.Net.{NetLists, IsNet, signal_at, trans_at, is_edge, IsBefore as IsArcBefore}
+use Rattle.stg_net.specs.Graph.{Graph, IsKnown, takes}
 use Rattle.stg_net.specs.Initial.{joins, full_name, graph_of}
-use Rattle.stg_net.proofs.Weights.{Joint, joins_whole, weight_of-arc, weight_of-joint, takes-graph_of, full_name_at-initial}
+use Rattle.stg_net.proofs.Edges.{is_edge-true, is_edge-itself}
+use Rattle.stg_net.proofs.Weights.{Joint, joins_whole, weight_of-arc, takes-graph_of, takes-joint, joint_there, full_name_at-graph_of}
 use Rattle.stg_net.proofs.Signals.{one_signal}
+use Rattle.stg_laws.proofs.Components.{net_all_known}
 use Rattle.stg_laws.specs.Cuts.{Label, label_of}
 use Rattle.stg_laws.specs.Deterministic.{AreRivals}
 use Rattle.stg_laws.specs.Conflict.{HasNoAutoConflict}
 use Rattle.stg_conflict.specs.declared.clash.Clash.{Clash}
 use Rattle.stg_conflict.specs.Clash.{IsClash, IsLeastClash}
-use Rattle.stg_conflict.specs.Search.{is_edge, name_at, have_label, are_rivals, least_clash}
+use Rattle.stg_conflict.specs.Search.{have_label, are_clashing, least_clash}
 use Rattle.stg_conflict.proofs.Found.{Found, clash_of, trans_up, least_clash-sound, found-reached}
 
-edge_sound : (e f : Edge) → is_edge e f ≡ true → e ≡ f
-edge_sound Rise Rise h = refl
-edge_sound Rise Fall h = absurd (false≢true h)
-edge_sound Rise Toggle h = absurd (false≢true h)
-edge_sound Fall Rise h = absurd (false≢true h)
-edge_sound Fall Fall h = refl
-edge_sound Fall Toggle h = absurd (false≢true h)
-edge_sound Toggle Rise h = absurd (false≢true h)
-edge_sound Toggle Fall h = absurd (false≢true h)
-edge_sound Toggle Toggle h = refl
-
-edge_itself : (e : Edge) → is_edge e e ≡ true
-edge_itself Rise = refl
-edge_itself Fall = refl
-edge_itself Toggle = refl
-
-not_true : (b : Bool) → not b ≡ true → b ≡ false
-not_true true e = absurd (false≢true e)
-not_true false e = refl
-
 -- the signal of each transition of a net is known
-trans_known : (n : NetLists) (t : ℕ) → IsNet n → t < length n.trans → IsKnown (graph_of n) t
-trans_known n t net there =
-    let s = (name_at n.trans t).signal in
-    let low : s < length n.signals = net.trans_signals t (record { signal = 0; edge = Rise; index = 0 }) there in
-    let names = map (λ k. (signal_at n.signals k).name) (range_with_len 0 (length n.signals)) in
-    let at : get_or names s [] ≡ (signal_at n.signals s).name = get_or-map-range_with_len (λ k. (signal_at n.signals k).name) 0 (length n.signals) s s [] low (zero-add s) in
-    let found : is_among names (signal_at n.signals s).name ≡ true =
-    list_any_at (λ k. bytes_eq k (signal_at n.signals s).name) names s [] (omega (arith, low, length-map-range_with_len (λ k. (signal_at n.signals k).name) 0 (length n.signals))) ((bytes_eq-Decides (get_or names s []) (signal_at n.signals s).name).1 at) in
-    ap (has_signal_of names) (full_name_at-initial n (range_with_len 0 (length n.signals)) t (record { signal = 0; edge = Rise; index = 0 }) there) ∙ found
+known_below : (n : NetLists) (t : ℕ) → IsNet n → t < length n.trans → IsKnown (graph_of n) t
+known_below n t net below = net_all_known n net t (ap is_some (full_name_at-graph_of n t below))
 
 takes_some : (n : NetLists) (a : NetArc) (i : ℕ) → IsNet n → i < length n.arcs → get_or n.arcs i a ≡ a → a.into ≡ false → 0 < takes (graph_of n) a.trans a.place
 takes_some n a i net inside a_is out =
@@ -66,21 +34,21 @@ out_ascends a b before same a_out b_out = elim before [
   | inr s ↦ elim s.1 [ inl l ↦ l | inr r ↦ absurd (false≢true (sym b_out ∙ r.1.1)) ]
 ]
 
--- two rivals among the arcs give a clash of the graph
+-- two arcs that clash give a clash of the graph
 pub found_clash : (n : NetLists) (c : Clash) → IsNet n → Found n.trans n.arcs c → IsClash (graph_of n) c
-found_clash n c net f = subst (IsClash (graph_of n)) (sym f.c_is) (clash f.one f.other f.first f.second f.ascends f.inside (f.one_is f.one) (f.other_is f.other) (f.one_is f.other) f.same_place f.rivals)
+found_clash n c net f = subst (IsClash (graph_of n)) (sym f.c_is) (clash f.one f.other f.first f.second f.ascends f.inside (f.one_is f.one) (f.other_is f.other) (f.one_is f.other) f.same_place f.clashing)
   where
-    clash : (a b : NetArc) (i j : ℕ) → i < j → j < length n.arcs → get_or n.arcs i a ≡ a → get_or n.arcs j b ≡ b → get_or n.arcs i b ≡ a → b.place ≡ a.place → are_rivals n.trans a b ≡ true → IsClash (graph_of n) (clash_of a b)
+    clash : (a b : NetArc) (i j : ℕ) → i < j → j < length n.arcs → get_or n.arcs i a ≡ a → get_or n.arcs j b ≡ b → get_or n.arcs i b ≡ a → b.place ≡ a.place → are_clashing n.trans a b ≡ true → IsClash (graph_of n) (clash_of a b)
     clash a b i j lt inside a_is b_is a_at same r =
-        let x = name_at n.trans a.trans in
-        let y = name_at n.trans b.trans in
+        let x = trans_at n.trans a.trans in
+        let y = trans_at n.trans b.trans in
         let outer = and_parts (have_label x y && not a.into) (not b.into) r in
         let inner = and_parts (have_label x y) (not a.into) outer.0 in
         let label = and_parts (x.signal == y.signal) (is_edge x.edge y.edge) inner.0 in
         let same_signal : x.signal ≡ y.signal = eqb-true x.signal y.signal label.0 in
-        let same_edge : x.edge ≡ y.edge = edge_sound x.edge y.edge label.1 in
-        let a_out = not_true a.into inner.1 in
-        let b_out = not_true b.into outer.1 in
+        let same_edge : x.edge ≡ y.edge = is_edge-true x.edge y.edge label.1 in
+        let a_out = not-true a.into inner.1 in
+        let b_out = not-true b.into outer.1 in
         let before : IsArcBefore a b = subst (λ z. IsArcBefore z b) a_at (subst (IsArcBefore (get_or n.arcs i b)) b_is (net.ordered i j b lt inside)) in
         let up : a.trans < b.trans = out_ascends a b before (sym same) a_out b_out in
         let there : b.trans < length n.trans = subst (λ (z : NetArc). z.trans < length n.trans) b_is (net.arcs j b inside).trans_there in
@@ -89,12 +57,12 @@ found_clash n c net f = subst (IsClash (graph_of n)) (sym f.c_is) (clash f.one f
           conflict = record {
             rivals = record {
               differ = λ e. absurd (omega arith);
-              t_known = trans_known n a.trans net below;
-              u_known = trans_known n b.trans net there;
+              t_known = known_below n a.trans net below;
+              u_known = known_below n b.trans net there;
               t_name = full_name n x;
               u_name = full_name n y;
-              t_has = full_name_at-initial n (range_with_len 0 (length n.signals)) a.trans (record { signal = 0; edge = Rise; index = 0 }) below;
-              u_has = full_name_at-initial n (range_with_len 0 (length n.signals)) b.trans (record { signal = 0; edge = Rise; index = 0 }) there;
+              t_has = full_name_at-graph_of n a.trans below;
+              u_has = full_name_at-graph_of n b.trans there;
               same = (λ k. record { signal = (signal_at n.signals (same_signal k)).name; edge = same_edge k });
             };
             t_takes = takes_some n a i net (omega arith) a_is a_out;
@@ -103,29 +71,20 @@ found_clash n c net f = subst (IsClash (graph_of n)) (sym f.c_is) (clash f.one f
           ascends = up;
         }
 
-arc_here : (n : NetLists) (t p : ℕ) → IsNet n → 0 < takes (graph_of n) t p → Joint n.arcs false t p
-arc_here n t p net some = weight_of-joint false t p n.arcs (omega (arith, some, takes-graph_of n t p net))
-
 -- the names that the graph has for two transitions of one label
-labels : (n : NetLists) (t u : ℕ) → IsNet n → t < length n.trans → u < length n.trans → AreRivals (graph_of n) t u → have_label (name_at n.trans t) (name_at n.trans u) ≡ true
+labels : (n : NetLists) (t u : ℕ) → IsNet n → t < length n.trans → u < length n.trans → AreRivals (graph_of n) t u → have_label (trans_at n.trans t) (trans_at n.trans u) ≡ true
 labels n t u net there also r =
-    let x = name_at n.trans t in
-    let y = name_at n.trans u in
-    let none : TransName = record { signal = 0; edge = Rise; index = 0 } in
-    let x_is : r.t_name ≡ full_name n x = same_Some r.t_name (full_name n x) (sym r.t_has ∙ full_name_at-initial n (range_with_len 0 (length n.signals)) t none there) in
-    let y_is : r.u_name ≡ full_name n y = same_Some r.u_name (full_name n y) (sym r.u_has ∙ full_name_at-initial n (range_with_len 0 (length n.signals)) u none also) in
+    let x = trans_at n.trans t in
+    let y = trans_at n.trans u in
+    let x_is : r.t_name ≡ full_name n x = same_Some r.t_name (full_name n x) (sym r.t_has ∙ full_name_at-graph_of n t there) in
+    let y_is : r.u_name ≡ full_name n y = same_Some r.u_name (full_name n y) (sym r.u_has ∙ full_name_at-graph_of n u also) in
     let same : label_of (full_name n x) ≡ label_of (full_name n y) = sym (ap label_of x_is) ∙ r.same ∙ ap label_of y_is in
-    let signal : x.signal ≡ y.signal = one_signal n x.signal y.signal net (net.trans_signals t none there) (net.trans_signals u none also) (ap (λ (l : Label). l.signal) same) in
+    let signal : x.signal ≡ y.signal = one_signal n x.signal y.signal net (net.trans_signals t (trans_at [] t) there) (net.trans_signals u (trans_at [] u) also) (ap (λ (l : Label). l.signal) same) in
     let edge : x.edge ≡ y.edge = ap (λ (l : Label). l.edge) same in
-    rw (eq-eqb x.signal y.signal signal) (ap (is_edge x.edge) (sym edge) ∙ edge_itself x.edge)
+    rw (eq-eqb x.signal y.signal signal) (ap (is_edge x.edge) (sym edge) ∙ is_edge-itself x.edge)
 
-rivals_whole : (trans : List TransName) (a b : NetArc) → have_label (name_at trans a.trans) (name_at trans b.trans) ≡ true → a.into ≡ false → b.into ≡ false → are_rivals trans a b ≡ true
-rivals_whole trans a b label a_out b_out = rw label (rw a_out (rw b_out refl))
-
-joint_there : (n : NetLists) (into : Bool) (t p : ℕ) → IsNet n → Joint n.arcs into t p → t < length n.trans
-joint_there n into t p net j =
-    let low : j.arc.trans < length n.trans = subst (λ (a : NetArc). a.trans < length n.trans) (j.arc_is j.arc) (net.arcs j.at j.arc j.inside).trans_there in
-    omega (arith, low, j.joins_both.trans_is)
+clashing_whole : (trans : List TransName) (a b : NetArc) → have_label (trans_at trans a.trans) (trans_at trans b.trans) ≡ true → a.into ≡ false → b.into ≡ false → are_clashing trans a b ≡ true
+clashing_whole trans a b label a_out b_out = rw label (rw a_out (rw b_out refl))
 
 -- of two arcs of one place, that of the lesser transition stands first
 joints_ascend : (n : NetLists) (t u p : ℕ) → IsNet n → t < u → (j : Joint n.arcs false t p) (k : Joint n.arcs false u p) → j.at < k.at
@@ -141,14 +100,14 @@ joints_ascend n t u p net lt j k = elim (cases_order j.at k.at) [
   ]
 ]
 
--- a clash of the graph is that of two rivals among the arcs
+-- a clash of the graph is that of two arcs that clash
 pub clash_found : (n : NetLists) (c : Clash) → IsNet n → IsClash (graph_of n) c → Found n.trans n.arcs c
-clash_found n c net clash = found (arc_here n c.t1 c.place net clash.conflict.t_takes) (arc_here n c.t2 c.place net clash.conflict.u_takes)
+clash_found n c net clash = found (takes-joint n c.t1 c.place net clash.conflict.t_takes) (takes-joint n c.t2 c.place net clash.conflict.u_takes)
   where
     found : Joint n.arcs false c.t1 c.place → Joint n.arcs false c.t2 c.place → Found n.trans n.arcs c
     found j k =
-        let P : ℕ → Type 0 = λ t. have_label (name_at n.trans t) (name_at n.trans c.t2) ≡ true in
-        let Q : ℕ → Type 0 = λ u. have_label (name_at n.trans j.arc.trans) (name_at n.trans u) ≡ true in
+        let P : ℕ → Type 0 = λ t. have_label (trans_at n.trans t) (trans_at n.trans c.t2) ≡ true in
+        let Q : ℕ → Type 0 = λ u. have_label (trans_at n.trans j.arc.trans) (trans_at n.trans u) ≡ true in
         let label = labels n c.t1 c.t2 net (joint_there n false c.t1 c.place net j) (joint_there n false c.t2 c.place net k) clash.conflict.rivals in
         record {
           first = j.at;
@@ -160,7 +119,7 @@ clash_found n c net clash = found (arc_here n c.t1 c.place net clash.conflict.t_
           other = k.arc;
           other_is = k.arc_is;
           same_place = k.joins_both.place_is ∙ sym j.joins_both.place_is;
-          rivals = rivals_whole n.trans j.arc k.arc (subst Q (sym k.joins_both.trans_is) (subst P (sym j.joins_both.trans_is) label)) j.joins_both.goes_is k.joins_both.goes_is;
+          clashing = clashing_whole n.trans j.arc k.arc (subst Q (sym k.joins_both.trans_is) (subst P (sym j.joins_both.trans_is) label)) j.joins_both.goes_is k.joins_both.goes_is;
           c_is = (λ i. record { t1 = sym j.joins_both.trans_is i; t2 = sym k.joins_both.trans_is i; place = sym j.joins_both.place_is i });
         }
 

@@ -1,23 +1,17 @@
 -- Clashes of small nets.
-use Rattle.std.proofs.Common.{◌≡◌, ℕ, [], ◌∷◌, true, false, List, Some, None, refl, arith}
+use Rattle.std.proofs.Common.{◌≡◌, ℕ, [], ◌∷◌, List, Some, None, refl, arith}
 use Rattle.stg_net.specs.declared.trans.Edge.{Edge}
 use Rattle.stg_net.specs.declared.trans.Edge.TheVariants.{Rise, Fall}
 use Rattle.stg_net.specs.declared.trans.TransName.{TransName}
-use Rattle.stg_net.specs.declared.arc.NetArc.{NetArc}
 use Rattle.stg_net.specs.declared.signal.Kind.TheVariants.{Input}
 use Rattle.stg_net.specs.Net.{NetLists}
 use Rattle.stg_net.specs.Initial.{graph_of}
+use Rattle.stg_net.proofs.Examples.{into, from}
 use Rattle.stg_laws.specs.Conflict.{IsAutoConflict}
 use Rattle.stg_conflict.specs.Search.{least_clash}
 
 abbrev named : ℕ → Edge → ℕ → TransName
 named s edge index = record { signal = s; edge = edge; index = index }
-
-abbrev into : ℕ → ℕ → NetArc
-into p t = record { place = p; trans = t; into = true; weight = 1 }
-
-abbrev from : ℕ → ℕ → NetArc
-from p t = record { place = p; trans = t; into = false; weight = 1 }
 
 -- p a+ a+/1
 abbrev twice : NetLists
@@ -48,6 +42,6 @@ least-pair = refl
 least-place : least_clash rises (from 1 0 ∷ from 1 2 ∷ from 2 0 ∷ from 2 2 ∷ []) ≡ Some (record { t1 = 0; t2 = 2; place = 1 })
 least-place = refl
 
--- a transition that gives and one of another label are no rivals
+-- a transition that gives and one of another label don't clash
 no-clash : least_clash rises (from 0 0 ∷ into 0 1 ∷ from 0 3 ∷ from 1 1 ∷ []) ≡ None
 no-clash = refl

@@ -1,11 +1,12 @@
 -- A clash names transitions and a place of the net.
-use Rattle.std.proofs.Common.{◌≡◌, ℕ, ◌<◌, ◌≤◌, length, ap, inl, inr, arith}
+use Rattle.std.proofs.Common.{◌≡◌, ℕ, ◌<◌, length, ap, inl, inr, arith}
+use Rattle.std.specs.List.{range_with_len}
 use Rattle.std.proofs.lemmas.Bool.{cases_lt}
 use Rattle.stg_net.specs.Graph.{taken_by, takes}
 use Rattle.stg_net.specs.Initial.{graph_of}
 use Rattle.stg_net.specs.Net.{NetLists}
+use Rattle.stg_net.proofs.Weights.{place_at-past, live_below}
 use Rattle.stg_laws.proofs.Names.{live_from}
-use Rattle.stg_laws.proofs.Nets.{live_below, place_at-past}
 use Rattle.stg_conflict.specs.declared.clash.Clash.{Clash}
 use Rattle.stg_conflict.specs.Clash.{IsClash}
 
@@ -19,7 +20,7 @@ pub record IsWithinNet (n : NetLists) (c : Clash) : Type 0 where
 taken_below : (n : NetLists) (t p : ℕ) → 0 < takes (graph_of n) t p → p < length n.tokens
 taken_below n t p some = elim (cases_lt p (length n.tokens)) [
   | inl below ↦ below
-  | inr past ↦ let none : takes (graph_of n) t p ≡ 0 = ap (taken_by t) (place_at-past n p past) in absurd (omega arith)
+  | inr past ↦ let none : takes (graph_of n) t p ≡ 0 = ap (taken_by t) (place_at-past n (range_with_len 0 (length n.signals)) p past) in absurd (omega arith)
 ]
 
 pub clash_within : (n : NetLists) (c : Clash) → IsClash (graph_of n) c → IsWithinNet n c

@@ -1,9 +1,8 @@
 -- The search for the least clash, from the last arc on.
-use Rattle.std.specs.Prelude.{ℕ, Bool, true, false, not, ◌&&◌, ◌||◌, ◌==◌, nat_lt, List, [], ◌∷◌, Option, Some, None, slice_index_or, if◌then◌else◌}
-use Rattle.stg_net.specs.declared.trans.Edge.{Edge}
-use Rattle.stg_net.specs.declared.trans.Edge.TheVariants.{Rise, Fall, Toggle}
+use Rattle.std.specs.Prelude.{Bool, not, ◌&&◌, ◌||◌, ◌==◌, nat_lt, List, [], ◌∷◌, Option, Some, None, if◌then◌else◌}
 use Rattle.stg_net.specs.declared.trans.TransName.{TransName}
 use Rattle.stg_net.specs.declared.arc.NetArc.{NetArc}
+use Rattle.stg_net.specs.Net.{trans_at, is_edge}
 use Rattle.stg_conflict.specs.declared.clash.Clash.{Clash}
 
 -- by the first transition, then by the second, then by the place
@@ -16,30 +15,21 @@ lesser (Some c) (Some d) = Some (if is_before d c then d else c)
 lesser (Some c) None = Some c
 lesser None d = d
 
-abbrev pub is_edge : Edge → Edge → Bool
-is_edge Rise Rise = true
-is_edge Fall Fall = true
-is_edge Toggle Toggle = true
-is_edge e f = false
-
-abbrev pub name_at : List TransName → ℕ → TransName
-name_at trans t = slice_index_or trans t (record { signal = 0; edge = Rise; index = 0 })
-
 -- whether two names of a net have one label
 abbrev pub have_label : TransName → TransName → Bool
 have_label x y = (x.signal == y.signal) && is_edge x.edge y.edge
 
 -- whether two arcs of one place are those by which two transitions of one label take
-abbrev pub are_rivals : List TransName → NetArc → NetArc → Bool
-are_rivals trans a b = have_label (name_at trans a.trans) (name_at trans b.trans) && not a.into && not b.into
+abbrev pub are_clashing : List TransName → NetArc → NetArc → Bool
+are_clashing trans a b = have_label (trans_at trans a.trans) (trans_at trans b.trans) && not a.into && not b.into
 
--- the clash of the first arc that stands later at the place of a and is a rival of a
-abbrev pub first_rival : List TransName → NetArc → List NetArc → Option Clash
-first_rival trans a [] = None
-first_rival trans a (b ∷ arcs) =
-    if b.place == a.place then (if are_rivals trans a b then Some (record { t1 = a.trans; t2 = b.trans; place = a.place }) else first_rival trans a arcs) else None
+-- the clash of a with the first later arc that clashes with it, up to the first arc of another place
+abbrev pub first_clash : List TransName → NetArc → List NetArc → Option Clash
+first_clash trans a [] = None
+first_clash trans a (b ∷ arcs) =
+    if b.place == a.place then (if are_clashing trans a b then Some (record { t1 = a.trans; t2 = b.trans; place = a.place }) else first_clash trans a arcs) else None
 
 -- the least of the clashes of all arcs
 abbrev pub least_clash : List TransName → List NetArc → Option Clash
 least_clash trans [] = None
-least_clash trans (a ∷ arcs) = lesser (first_rival trans a arcs) (least_clash trans arcs)
+least_clash trans (a ∷ arcs) = lesser (first_clash trans a arcs) (least_clash trans arcs)

@@ -3,11 +3,14 @@
 ghost use Rattle.std.specs.Prelude.{◌≡◌};
 ghost use Rattle.stg_conflict.specs.Search.{is_before, lesser};
 
-/// Two transitions of one label, `t1` before `t2`, and a place from which both take.
+/// Two transitions of one label, and a place from which both take.
 #[derive(Clone, Copy, Debug, PartialEq, Eq)]
 pub struct Clash {
+    /// The lesser transition.
     pub t1: u32,
+    /// The greater transition.
     pub t2: u32,
+    /// The place from which both take.
     pub place: u32,
 }
 

@@ -5,7 +5,7 @@ ghost use Rattle.stg_net.specs.declared.arc.NetArc.{NetArc};
 ghost use Rattle.stg_net.specs.Initial.{graph_of};
 ghost use Rattle.stg_laws.specs.Conflict.{HasNoAutoConflict};
 ghost use Rattle.stg_conflict.specs.Clash.{IsLeastClash};
-ghost use Rattle.stg_conflict.specs.Search.{have_label, are_rivals, first_rival, least_clash};
+ghost use Rattle.stg_conflict.specs.Search.{have_label, are_clashing, first_clash, least_clash};
 
 use crate::Clash;
 use crate::clash::least_of;
@@ -20,17 +20,17 @@ fn is_label(one: TransName, other: TransName) -> bool
 fn take_both(trans: &[TransName], one: NetArc, other: NetArc) -> bool
     requires one { one.trans < length trans.now }
     requires other { other.trans < length trans.now }
-    ensures { result ≡ are_rivals trans.now one other }
+    ensures { result ≡ are_clashing trans.now one other }
 {
     let same = is_label(trans[one.trans as usize], trans[other.trans as usize]);
     same && !one.into && !other.into
 }
 
 // The arcs of one place stand together, so the search ends with the first arc of another one.
-fn find_rival(trans: &[TransName], arc: NetArc, later: &[NetArc]) -> Option<Clash>
+fn find_first(trans: &[TransName], arc: NetArc, later: &[NetArc]) -> Option<Clash>
     requires arc { arc.trans < length trans.now }
     requires later { All (λ (a : NetArc). a.trans < length trans.now) later.now }
-    ensures { result ≡ first_rival trans.now arc later.now }
+    ensures { result ≡ first_clash trans.now arc later.now }
 {
     for other in later {
         if other.place != arc.place {
@@ -53,7 +53,7 @@ fn find_clash(trans: &[TransName], arcs: &[NetArc]) -> Option<Clash>
 {
     let mut least = None;
     for i in (0..arcs.len()).rev() {
-        least = least_of(find_rival(trans, arcs[i], &arcs[i + 1..]), least);
+        least = least_of(find_first(trans, arcs[i], &arcs[i + 1..]), least);
     }
     least
 }
