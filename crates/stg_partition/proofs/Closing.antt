@@ -1,30 +1,20 @@
 -- A plain group is closed: it knows the signals of all arcs at the places from which its own transitions take.
-use Rattle.std.proofs.Common.{◌≡◌, ℕ, ◌<◌, ◌&&◌, ◌||◌, ◌⊎◌, Bool, true, false, List, [], length, get_or, Contains, Option, Some, None, is_some, refl, sym, ap, ◌∙◌, subst, arith, inl, inr}
-use Rattle.std.specs.List.{list_any, range_with_len}
+use Rattle.std.proofs.Common.{◌≡◌, ℕ, ◌<◌, ◌⊎◌, Bool, true, false, List, [], length, get_or, Contains, Option, Some, None, is_some, refl, sym, ap, ◌∙◌, subst, arith, inl, inr}
 use Rattle.std.specs.Str.{bytes_eq}
 use Rattle.std.proofs.lemmas.List.{get_or-map, get_or_default, length-map}
 use Rattle.std.proofs.lemmas.List.Folds.{list_any_at}
-use Rattle.std.proofs.lemmas.List.FromFn.{length-range_with_len, get_or-range_with_len}
 use Rattle.std.proofs.lemmas.Slice.Eq.{bytes_eq-Decides}
-use Rattle.stg_net.specs.declared.trans.Edge.TheVariants.{Rise}
-use Rattle.stg_net.specs.declared.trans.TransName.{TransName}
-use Rattle.stg_net.specs.declared.arc.NetArc.{NetArc}
-use Rattle.stg_net.specs.Net.{NetLists, IsNet, signal_at}
+use Rattle.stg_net.specs.Net.{NetLists, IsNet, signal_at, trans_at}
 use Rattle.stg_net.specs.Graph.{FullName, full_name_at, has_signal_of, is_among, takes, gives}
 use Rattle.stg_net.specs.Initial.{graph_of}
-use Rattle.stg_net.proofs.Weights.{Joint, weight_of-joint, takes-graph_of, gives-graph_of, full_name_at-initial}
+use Rattle.stg_net.proofs.Weights.{Joint, takes-joint, gives-joint, joint_place, full_name_at-graph_of, live_below}
 use Rattle.stg_net.proofs.Signals.{one_signal}
 use Rattle.stg_laws.specs.Closed.{IsClosed}
-use Rattle.stg_net.specs.Component.{is_one_of}
-use Rattle.stg_laws.specs.Groups.{takes_from, is_at, own_take_from, is_known_to, known_to, names_at, IsPlainGroup, least_own}
-use Rattle.stg_laws.proofs.Nets.{live_below}
+use Rattle.stg_laws.specs.Groups.{takes_from, is_at, is_known_to, known_to, names_at, IsPlainGroup, least_own}
 use Rattle.stg_partition.specs.declared.group.Group.{Group}
 use Rattle.stg_partition.specs.PlainGroups.{ArePlainGroups, AreClosed}
-use Rattle.stg_partition.proofs.Conflicts.{passing, both, takes_by, at_by, joined_driven, driven_there}
+use Rattle.stg_partition.proofs.Conflicts.{passing, takes_by, at_by, own_takes, known_at, joined_driven, driven_there}
 use Rattle.stg_partition.proofs.Numbers.{passing_contained}
-
-abbrev trans_at : NetLists → ℕ → TransName
-trans_at n t = get_or n.trans t (record { signal = 0; edge = Rise; index = 0 })
 
 -- a signal of the list has the name
 record IsNamed (n : NetLists) (signals : List ℕ) (name : List ℕ) : Type 0 where
@@ -53,60 +43,40 @@ signal_live signals None e = e
 signal_live signals (Some x) e = refl
 
 -- the signal of a transition whose signal is among the names
-trans_among : (n : NetLists) (signals : List (List ℕ)) (t : ℕ) → t < length n.trans → has_signal_of signals (full_name_at (graph_of n) t) ≡ true → is_among signals (signal_at n.signals (trans_at n t).signal).name ≡ true
-trans_among n signals t there e = ap (has_signal_of signals) (sym (full_name_at-initial n (range_with_len 0 (length n.signals)) t (record { signal = 0; edge = Rise; index = 0 }) there)) ∙ e
+trans_among : (n : NetLists) (signals : List (List ℕ)) (t : ℕ) → t < length n.trans → has_signal_of signals (full_name_at (graph_of n) t) ≡ true → is_among signals (signal_at n.signals (trans_at n.trans t).signal).name ≡ true
+trans_among n signals t there e = ap (has_signal_of signals) (sym (full_name_at-graph_of n t there)) ∙ e
 
-joint_takes : (n : NetLists) (t p : ℕ) → Joint n.arcs false t p → takes_from n (trans_at n t).signal p ≡ true
+joint_takes : (n : NetLists) (t p : ℕ) → Joint n.arcs false t p → takes_from n (trans_at n.trans t).signal p ≡ true
 joint_takes n t p j =
-    let P : ℕ → Type 0 = λ q. takes_from n (trans_at n t).signal q ≡ true in
-    let Q : ℕ → Type 0 = λ u. takes_from n (trans_at n u).signal j.arc.place ≡ true in
+    let P : ℕ → Type 0 = λ q. takes_from n (trans_at n.trans t).signal q ≡ true in
+    let Q : ℕ → Type 0 = λ u. takes_from n (trans_at n.trans u).signal j.arc.place ≡ true in
     subst P j.joins_both.place_is (subst Q j.joins_both.trans_is (takes_by n j.arc j.at j.inside (j.arc_is j.arc) j.joins_both.goes_is))
 
-joint_at : (n : NetLists) (into : Bool) (u p : ℕ) → Joint n.arcs into u p → is_at n (trans_at n u).signal p ≡ true
+joint_at : (n : NetLists) (into : Bool) (u p : ℕ) → Joint n.arcs into u p → is_at n (trans_at n.trans u).signal p ≡ true
 joint_at n into u p j =
-    let P : ℕ → Type 0 = λ q. is_at n (trans_at n u).signal q ≡ true in
-    let Q : ℕ → Type 0 = λ t. is_at n (trans_at n t).signal j.arc.place ≡ true in
+    let P : ℕ → Type 0 = λ q. is_at n (trans_at n.trans u).signal q ≡ true in
+    let Q : ℕ → Type 0 = λ t. is_at n (trans_at n.trans t).signal j.arc.place ≡ true in
     subst P j.joins_both.place_is (subst Q j.joins_both.trans_is (at_by n j.arc j.at j.inside (j.arc_is j.arc)))
 
-arc_at : (n : NetLists) (u p : ℕ) → IsNet n → (0 < takes (graph_of n) u p) ⊎ (0 < gives (graph_of n) u p) → is_at n (trans_at n u).signal p ≡ true
+arc_at : (n : NetLists) (u p : ℕ) → IsNet n → (0 < takes (graph_of n) u p) ⊎ (0 < gives (graph_of n) u p) → is_at n (trans_at n.trans u).signal p ≡ true
 arc_at n u p net h = elim h [
-  | inl l ↦ joint_at n false u p (weight_of-joint false u p n.arcs (omega (arith, l, takes-graph_of n u p net)))
-  | inr l ↦ joint_at n true u p (weight_of-joint true u p n.arcs (omega (arith, l, gives-graph_of n u p net)))
+  | inl l ↦ joint_at n false u p (takes-joint n u p net l)
+  | inr l ↦ joint_at n true u p (gives-joint n u p net l)
 ]
-
-joint_place : (n : NetLists) (t p : ℕ) → IsNet n → Joint n.arcs false t p → p < length n.tokens
-joint_place n t p net j =
-    let low : j.arc.place < length n.tokens = subst (λ (a : NetArc). a.place < length n.tokens) (j.arc_is j.arc) (net.arcs j.at j.arc j.inside).place_there in
-    omega (arith, low, j.joins_both.place_is)
-
-own_takes : (n : NetLists) (own : List ℕ) (s p : ℕ) → Contains own s → takes_from n s p ≡ true → own_take_from n own p ≡ true
-own_takes n own s p c e = list_any_at (λ o. takes_from n o p) own c.0 s c.1 (ap (λ o. takes_from n o p) c.2 ∙ e)
-
-or_second : (b c : Bool) → c ≡ true → (b || c) ≡ true
-or_second true c e = refl
-or_second false c e = e
-
-known_at : (n : NetLists) (own : List ℕ) (s p : ℕ) → p < length n.tokens → own_take_from n own p ≡ true → is_at n s p ≡ true → is_known_to n own s ≡ true
-known_at n own s p inside takes at =
-    let test : ℕ → Bool = λ q. own_take_from n own q && is_at n s q in
-    let here : get_or (range_with_len 0 (length n.tokens)) p 0 ≡ p = omega (arith, get_or-range_with_len 0 (length n.tokens) p 0 inside) in
-    or_second (is_one_of own s) (list_any test (range_with_len 0 (length n.tokens)))
-    (list_any_at test (range_with_len 0 (length n.tokens)) p 0 (omega (arith, inside, length-range_with_len 0 (length n.tokens))) (ap test here ∙ both (own_take_from n own p) (is_at n s p) takes at))
 
 -- what a list of signals has to know is closed
 closes : (n : NetLists) (own : List ℕ) → IsNet n → ((s : ℕ) → Contains own s → s < length n.signals) → IsClosed (graph_of n) (names_at n own) (names_at n (known_to n own))
 closes n own net there t u p own_t takes_t live arc =
     let t_there = live_below n t (signal_live (names_at n own) (full_name_at (graph_of n) t) own_t) in
-    let named = among_named n own (signal_at n.signals (trans_at n t).signal).name (trans_among n (names_at n own) t t_there own_t) in
-    let none : TransName = record { signal = 0; edge = Rise; index = 0 } in
-    let same : named.signal ≡ (trans_at n t).signal = one_signal n named.signal (trans_at n t).signal net (there named.signal named.listed) (net.trans_signals t none t_there) named.name_is in
-    let j = weight_of-joint false t p n.arcs (omega (arith, takes_t, takes-graph_of n t p net)) in
+    let named = among_named n own (signal_at n.signals (trans_at n.trans t).signal).name (trans_among n (names_at n own) t t_there own_t) in
+    let same : named.signal ≡ (trans_at n.trans t).signal = one_signal n named.signal (trans_at n.trans t).signal net (there named.signal named.listed) (net.trans_signals t (trans_at [] t) t_there) named.name_is in
+    let j = takes-joint n t p net takes_t in
     let P : ℕ → Type 0 = λ s. Contains own s in
-    let takes = own_takes n own (trans_at n t).signal p (subst P same named.listed) (joint_takes n t p j) in
+    let takes = own_takes n own (trans_at n.trans t).signal p (subst P same named.listed) (joint_takes n t p j) in
     let u_there = live_below n u live in
-    let known = known_at n own (trans_at n u).signal p (joint_place n t p net j) takes (arc_at n u p net arc) in
-    let listed = passing_contained (is_known_to n own) (length n.signals) (trans_at n u).signal (net.trans_signals u none u_there) known in
-    ap (has_signal_of (names_at n (known_to n own))) (full_name_at-initial n (range_with_len 0 (length n.signals)) u none u_there) ∙ named_among n (known_to n own) (trans_at n u).signal listed
+    let known = known_at n own (trans_at n.trans u).signal p (joint_place n false t p net j) takes (arc_at n u p net arc) in
+    let listed = passing_contained (is_known_to n own) (length n.signals) (trans_at n.trans u).signal (net.trans_signals u (trans_at [] u) u_there) known in
+    ap (has_signal_of (names_at n (known_to n own))) (full_name_at-graph_of n u u_there) ∙ named_among n (known_to n own) (trans_at n.trans u).signal listed
 
 -- each plain group is closed
 pub groups_closed : (n : NetLists) (groups : List Group) → IsNet n → ArePlainGroups n groups → AreClosed n groups

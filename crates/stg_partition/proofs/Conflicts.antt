@@ -1,16 +1,17 @@
 -- Conflicts and the lists that lead along them.
-use Rattle.std.proofs.Common.{◌≡◌, ℕ, suc, ◌<◌, ◌&&◌, ◌==◌, not, Bool, true, false, List, [], ◌∷◌, ◌++◌, length, get_or, refl, sym, ap, ◌∙◌, subst, arith, eq-eqb, inl, inr}
+use Rattle.std.proofs.Common.{◌≡◌, ℕ, ◌<◌, ◌&&◌, ◌==◌, not, Bool, true, false, List, [], ◌∷◌, ◌++◌, length, get_or, Contains, refl, sym, ap, ◌∙◌, subst, arith, eq-eqb, inl, inr}
 use Rattle.std.specs.List.{list_any, range_with_len}
-use Rattle.std.proofs.lemmas.Bool.{and_parts, cases_Bool, cases_lt, eqb-true, false≢true}
-use Rattle.std.proofs.lemmas.List.{get_or_past}
-use Rattle.std.proofs.lemmas.List.Folds.{list_any_at}
+use Rattle.std.proofs.lemmas.Bool.{and_parts, and_from, or_right, not-true, cases_lt, eqb-true, false≢true}
+use Rattle.std.proofs.lemmas.List.{get_or_default, get_or_past}
+use Rattle.std.proofs.lemmas.List.Folds.{list_any_at, Any-from_list_any}
 use Rattle.std.proofs.lemmas.List.FromFn.{length-range_with_len, get_or-range_with_len}
 use Rattle.stg_net.specs.declared.signal.Kind.TheVariants.{Input}
 use Rattle.stg_net.specs.declared.signal.Signal.{Signal}
 use Rattle.stg_net.specs.declared.arc.NetArc.{NetArc}
 use Rattle.stg_net.specs.Net.{NetLists}
+use Rattle.stg_net.specs.Component.{is_one_of}
 use Rattle.stg_laws.specs.Stgs.{is_driven}
-use Rattle.stg_laws.specs.Groups.{signal_of, is_driven_at, takes_from, is_at, share_place, in_conflict, LeadsTo, AreJoined}
+use Rattle.stg_laws.specs.Groups.{signal_of, is_driven_at, takes_from, is_at, own_take_from, is_known_to, share_place, in_conflict, LeadsTo, AreJoined}
 
 module _ {X : Type 0} where
   -- an item that passes
@@ -21,21 +22,13 @@ module _ {X : Type 0} where
     pub item_is : (d : X) → get_or xs at d ≡ item
     pub passes : test item ≡ true
 
-  passing_later : (test : X → Bool) (x : X) (xs : List X) → Passing test xs → Passing test (x ∷ xs)
-  passing_later test x xs f = record { at = suc f.at; inside = omega (arith, f.inside); item = f.item; item_is = f.item_is; passes = f.passes }
-
   pub passing : (test : X → Bool) (xs : List X) → list_any test xs ≡ true → Passing test xs
-  passing test [] e = absurd (false≢true e)
-  passing test (x ∷ xs) e = elim (cases_Bool (test x)) [
-    | inl t ↦ record { at = 0; inside = omega arith; item = x; item_is = λ d. refl; passes = t }
-    | inr f ↦ passing_later test x xs (passing test xs (rw f at e))
-  ]
-
-pub both : (b c : Bool) → b ≡ true → c ≡ true → (b && c) ≡ true
-both b c e f = rw e f
+  passing test xs e =
+      let a = Any-from_list_any test xs e in
+      record { at = a.0; inside = a.2; item = a.1; item_is = λ d. get_or_default xs a.0 d a.1 a.2 ∙ a.3; passes = a.4 }
 
 pub and_turn : (b c : Bool) → (b && c) ≡ true → (c && b) ≡ true
-and_turn b c e = let p = and_parts b c e in both c b p.1 p.0
+and_turn b c e = let p = and_parts b c e in and_from c b p.1 p.0
 
 -- an arc by which a transition of s takes from p
 pub record Taker (n : NetLists) (s p : ℕ) : Type 0 where
@@ -47,10 +40,6 @@ pub record Taker (n : NetLists) (s p : ℕ) : Type 0 where
   pub place_is : arc.place ≡ p
   pub signal_is : signal_of n arc ≡ s
 
-pub not_true : (b : Bool) → not b ≡ true → b ≡ false
-not_true true e = absurd (false≢true e)
-not_true false e = refl
-
 pub taker : (n : NetLists) (s p : ℕ) → takes_from n s p ≡ true → Taker n s p
 taker n s p e =
     let f = passing (λ (a : NetArc). not a.into && (a.place == p) && (signal_of n a == s)) n.arcs e in
@@ -61,7 +50,7 @@ taker n s p e =
       inside = f.inside;
       arc = f.item;
       arc_is = f.item_is;
-      out = not_true f.item.into inner.0;
+      out = not-true f.item.into inner.0;
       place_is = eqb-true f.item.place p inner.1;
       signal_is = eqb-true (signal_of n f.item) s outer.1;
     }
@@ -69,12 +58,24 @@ taker n s p e =
 pub takes_by : (n : NetLists) (a : NetArc) (i : ℕ) → i < length n.arcs → get_or n.arcs i a ≡ a → a.into ≡ false → takes_from n (signal_of n a) a.place ≡ true
 takes_by n a i inside a_is out =
     let test = λ (b : NetArc). not b.into && (b.place == a.place) && (signal_of n b == signal_of n a) in
-    list_any_at test n.arcs i a inside (ap test a_is ∙ rw out (both (a.place == a.place) (signal_of n a == signal_of n a) (eq-eqb a.place a.place refl) (eq-eqb (signal_of n a) (signal_of n a) refl)))
+    list_any_at test n.arcs i a inside (ap test a_is ∙ rw out (and_from (a.place == a.place) (signal_of n a == signal_of n a) (eq-eqb a.place a.place refl) (eq-eqb (signal_of n a) (signal_of n a) refl)))
 
 pub at_by : (n : NetLists) (a : NetArc) (i : ℕ) → i < length n.arcs → get_or n.arcs i a ≡ a → is_at n (signal_of n a) a.place ≡ true
 at_by n a i inside a_is =
     let test : NetArc → Bool = λ b. (b.place == a.place) && (signal_of n b == signal_of n a) in
-    list_any_at test n.arcs i a inside (ap test a_is ∙ both (a.place == a.place) (signal_of n a == signal_of n a) (eq-eqb a.place a.place refl) (eq-eqb (signal_of n a) (signal_of n a) refl))
+    list_any_at test n.arcs i a inside (ap test a_is ∙ and_from (a.place == a.place) (signal_of n a == signal_of n a) (eq-eqb a.place a.place refl) (eq-eqb (signal_of n a) (signal_of n a) refl))
+
+-- a list of signals takes from a place where one of them does
+pub own_takes : (n : NetLists) (own : List ℕ) (s p : ℕ) → Contains own s → takes_from n s p ≡ true → own_take_from n own p ≡ true
+own_takes n own s p c e = list_any_at (λ o. takes_from n o p) own c.0 s c.1 (ap (λ o. takes_from n o p) c.2 ∙ e)
+
+-- and has to know each signal at the place
+pub known_at : (n : NetLists) (own : List ℕ) (s p : ℕ) → p < length n.tokens → own_take_from n own p ≡ true → is_at n s p ≡ true → is_known_to n own s ≡ true
+known_at n own s p inside takes at =
+    let test : ℕ → Bool = λ q. own_take_from n own q && is_at n s q in
+    let here : get_or (range_with_len 0 (length n.tokens)) p 0 ≡ p = omega (arith, get_or-range_with_len 0 (length n.tokens) p 0 inside) in
+    or_right (is_one_of own s) (list_any test (range_with_len 0 (length n.tokens)))
+    (list_any_at test (range_with_len 0 (length n.tokens)) p 0 (omega (arith, inside, length-range_with_len 0 (length n.tokens))) (ap test here ∙ and_from (own_take_from n own p) (is_at n s p) takes at))
 
 -- a driven signal stands among the signals
 pub driven_there : (n : NetLists) (s : ℕ) → is_driven_at n.signals s ≡ true → s < length n.signals
@@ -99,10 +100,10 @@ pub share_at : (n : NetLists) (x y p : ℕ) → p < length n.tokens → takes_fr
 share_at n x y p inside x_takes y_takes =
     let test : ℕ → Bool = λ q. takes_from n x q && takes_from n y q in
     list_any_at test (range_with_len 0 (length n.tokens)) p 0 (omega (arith, inside, length-range_with_len 0 (length n.tokens)))
-    (let at : get_or (range_with_len 0 (length n.tokens)) p 0 ≡ p = omega (arith, get_or-range_with_len 0 (length n.tokens) p 0 inside) in ap test at ∙ both (takes_from n x p) (takes_from n y p) x_takes y_takes)
+    (let at : get_or (range_with_len 0 (length n.tokens)) p 0 ≡ p = omega (arith, get_or-range_with_len 0 (length n.tokens) p 0 inside) in ap test at ∙ and_from (takes_from n x p) (takes_from n y p) x_takes y_takes)
 
 pub conflict_at : (n : NetLists) (x y p : ℕ) → p < length n.tokens → is_driven_at n.signals x ≡ true → is_driven_at n.signals y ≡ true → takes_from n x p ≡ true → takes_from n y p ≡ true → in_conflict n x y ≡ true
-conflict_at n x y p inside out_x out_y x_takes y_takes = both (is_driven_at n.signals x && is_driven_at n.signals y) (share_place n x y) (both (is_driven_at n.signals x) (is_driven_at n.signals y) out_x out_y) (share_at n x y p inside x_takes y_takes)
+conflict_at n x y p inside out_x out_y x_takes y_takes = and_from (is_driven_at n.signals x && is_driven_at n.signals y) (share_place n x y) (and_from (is_driven_at n.signals x) (is_driven_at n.signals y) out_x out_y) (share_at n x y p inside x_takes y_takes)
 
 share_turn : (n : NetLists) (x y : ℕ) (ps : List ℕ) → list_any (λ p. takes_from n x p && takes_from n y p) ps ≡ true → list_any (λ p. takes_from n y p && takes_from n x p) ps ≡ true
 share_turn n x y ps e =
@@ -113,7 +114,7 @@ share_turn n x y ps e =
 pub conflict_turn : (n : NetLists) (x y : ℕ) → in_conflict n x y ≡ true → in_conflict n y x ≡ true
 conflict_turn n x y e =
     let parts = and_parts (is_driven_at n.signals x && is_driven_at n.signals y) (share_place n x y) e in
-    both (is_driven_at n.signals y && is_driven_at n.signals x) (share_place n y x) (and_turn (is_driven_at n.signals x) (is_driven_at n.signals y) parts.0) (share_turn n x y (range_with_len 0 (length n.tokens)) parts.1)
+    and_from (is_driven_at n.signals y && is_driven_at n.signals x) (share_place n y x) (and_turn (is_driven_at n.signals x) (is_driven_at n.signals y) parts.0) (share_turn n x y (range_with_len 0 (length n.tokens)) parts.1)
 
 -- the list that leads to y and then on to z
 leads_on : (n : NetLists) (x y z : ℕ) (path more : List ℕ) → LeadsTo n x path y → LeadsTo n y more z → LeadsTo n x (path ++ more) z

@@ -1,27 +1,11 @@
 -- The groups of two nets: a bus controller, and an output that shares its input place with an input.
-use Rattle.std.proofs.Common.{◌≡◌, ℕ, [], ◌∷◌, true, false, List, map, refl}
-use Rattle.stg_net.specs.declared.signal.Kind.{Kind}
+use Rattle.std.proofs.Common.{◌≡◌, ℕ, [], ◌∷◌, List, map, refl}
 use Rattle.stg_net.specs.declared.signal.Kind.TheVariants.{Input, Output, Internal}
-use Rattle.stg_net.specs.declared.signal.Signal.{Signal}
-use Rattle.stg_net.specs.declared.trans.Edge.{Edge}
 use Rattle.stg_net.specs.declared.trans.Edge.TheVariants.{Rise, Fall}
-use Rattle.stg_net.specs.declared.trans.TransName.{TransName}
-use Rattle.stg_net.specs.declared.arc.NetArc.{NetArc}
 use Rattle.stg_net.specs.Net.{NetLists}
 use Rattle.stg_net.specs.Ordered.{numbers_where}
+use Rattle.stg_net.proofs.Examples.{signal, named, into, from}
 use Rattle.stg_laws.specs.Groups.{in_conflict, known_to, AreJoined}
-
-abbrev pub named : ℕ → Edge → TransName
-named s edge = record { signal = s; edge = edge; index = 0 }
-
-abbrev pub into : ℕ → ℕ → NetArc
-into p t = record { place = p; trans = t; into = true; weight = 1 }
-
-abbrev pub from : ℕ → ℕ → NetArc
-from p t = record { place = p; trans = t; into = false; weight = 1 }
-
-abbrev pub signal : ℕ → Kind → Signal
-signal letter kind = record { name = letter ∷ []; kind = kind }
 
 -- the signals in conflict with s
 abbrev conflicts_of : NetLists → ℕ → List ℕ

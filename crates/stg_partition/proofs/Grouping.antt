@@ -1,42 +1,28 @@
 -- The groups of the leaders are the plain groups.
-use Rattle.std.proofs.Common.{◌≡◌, ◌↔◌, ℕ, ◌+◌, ◌*◌, ◌<◌, ◌&&◌, ◌||◌, ◌==◌, ◌⊎◌, Bool, true, false, List, length, get_or, map, All, Any, AllPairs, Contains, slice_index, Option, Some, None, IsTrue, refl, sym, ap, ◌∙◌, subst, arith, eq-eqb, inl, inr}
+use Rattle.std.proofs.Common.{◌≡◌, ◌↔◌, ℕ, ◌<◌, ◌&&◌, ◌||◌, ◌==◌, Bool, true, false, List, length, get_or, map, All, Any, AllPairs, Contains, slice_index, Option, Some, None, IsTrue, refl, sym, ap, ◌∙◌, subst, arith, eq-eqb, inl, inr}
 use Rattle.std.specs.List.{list_any, range_with_len}
-use Rattle.std.proofs.lemmas.Bool.{and_parts, eqb-true, ne_eqb, false≢true}
+use Rattle.std.proofs.lemmas.Bool.{and_parts, and_from, or_left, or_right, or_cases, eqb-true, ne_eqb, false≢true}
 use Rattle.std.proofs.lemmas.List.{get_or-map, length-map}
 use Rattle.std.proofs.lemmas.List.Folds.{list_any_at}
-use Rattle.std.proofs.lemmas.List.FromFn.{length-range_with_len, get_or-range_with_len}
 use Rattle.std.proofs.lemmas.List.Kept.{AllPairs-from_increasing}
 use Rattle.stg_net.specs.declared.arc.NetArc.{NetArc}
 use Rattle.stg_net.specs.Net.{NetLists, IsNet}
 use Rattle.stg_net.specs.Ordered.{numbers_where}
 use Rattle.stg_net.specs.Component.{is_one_of}
+use Rattle.stg_net.proofs.Givers.{numbers_where-agree}
+use Rattle.stg_net.proofs.Members.{one_of-contained, contained-one_of}
 use Rattle.stg_laws.specs.Groups.{signal_of, is_driven_at, takes_from, is_at, own_take_from, is_known_to, known_to, AreJoined, IsPlainGroup, least_own}
 use Rattle.stg_partition.specs.declared.group.Group.{Group}
 use Rattle.stg_partition.specs.PlainGroups.{ArePlainGroups}
-use Rattle.stg_partition.specs.Joining.{taker_at, is_led, shows, group_of, is_leader, IsJoining}
-use Rattle.stg_partition.proofs.Conflicts.{at_by, driven_there, passing, both, joined_driven}
+use Rattle.stg_partition.specs.Joining.{taker_at, is_led, shows, AreMarks, is_known_by, group_of, is_leader, IsJoining}
+use Rattle.stg_partition.proofs.Conflicts.{at_by, driven_there, passing, own_takes, known_at, joined_driven}
 use Rattle.stg_partition.proofs.Leading.{leader_of, taker_there, led_by, joined_led}
-use Rattle.stg_partition.proofs.Numbers.{numbers_increase, numbers_pass, contained_passes, passing_contained, first_number, numbers_agree}
+use Rattle.stg_partition.proofs.Numbers.{numbers_increase, numbers_pass, contained_passes, passing_contained, first_number}
 
 bool_same : (b c : Bool) → (b ≡ true → c ≡ true) → (c ≡ true → b ≡ true) → b ≡ c
 bool_same true c to from = sym (to refl)
 bool_same false true to from = from refl
 bool_same false false to from = refl
-
-or_first : (b c : Bool) → b ≡ true → (b || c) ≡ true
-or_first b c e = rw e refl
-
-or_second : (b c : Bool) → c ≡ true → (b || c) ≡ true
-or_second true c e = refl
-or_second false c e = e
-
-or_either : (b c : Bool) → (b || c) ≡ true → (b ≡ true) ⊎ (c ≡ true)
-or_either true c e = inl refl
-or_either false c e = inr e
-
--- what the marks of a net tell
-abbrev pub AreMarks : NetLists → List ℕ → List (Option ℕ) → List Bool → Type 0
-AreMarks n leaders takers marks = (l s : ℕ) → s < length leaders → get_or marks (l * length leaders + s) false ≡ list_any (shows n leaders takers l s) n.arcs
 
 module _ (n : NetLists) (leaders : List ℕ) (takers : List (Option ℕ)) (j : IsJoining n (length n.arcs) leaders takers) where
   abbrev own_of : ℕ → List ℕ
@@ -73,18 +59,11 @@ module _ (n : NetLists) (leaders : List ℕ) (takers : List (Option ℕ)) (j : I
         joined = subst P (sym least) (λ s. joins l s output e);
       }
 
-  contained_any : (test : ℕ → Bool) (xs : List ℕ) (x : ℕ) → Contains xs x → test x ≡ true → list_any test xs ≡ true
-  contained_any test xs x c e = list_any_at test xs c.0 x c.1 (ap test c.2 ∙ e)
-
   -- a group knows what its marks show it
   shown_known : (l s p t : ℕ) → p < length n.tokens → taker_at takers p ≡ Some t → leader_of leaders t ≡ l → is_at n s p ≡ true → is_known_to n (own_of l) s ≡ true
   shown_known l s p t inside taker e at =
       let own_t = led_own l t (taker_there takers (length leaders) p t j.below taker) e in
-      let takes = contained_any (λ o. takes_from n o p) (own_of l) t own_t (j.own p t taker).1 in
-      let test : ℕ → Bool = λ q. own_take_from n (own_of l) q && is_at n s q in
-      let here : get_or (range_with_len 0 (length n.tokens)) p 0 ≡ p = omega (arith, get_or-range_with_len 0 (length n.tokens) p 0 inside) in
-      or_second (is_one_of (own_of l) s) (list_any test (range_with_len 0 (length n.tokens)))
-      (list_any_at test (range_with_len 0 (length n.tokens)) p 0 (omega (arith, inside, length-range_with_len 0 (length n.tokens))) (ap test here ∙ both (own_take_from n (own_of l) p) (is_at n s p) takes at))
+      known_at n (own_of l) s p inside (own_takes n (own_of l) t p own_t (j.own p t taker).1) at
 
   -- the taker that leads to the group
   pub record LedBy (l p : ℕ) : Type 0 where
@@ -111,13 +90,11 @@ module _ (n : NetLists) (leaders : List ℕ) (takers : List (Option ℕ)) (j : I
 
   own_is_known : (l s : ℕ) → s < length leaders → leader_of leaders s ≡ l → is_known_to n (own_of l) s ≡ true
   own_is_known l s below e =
-      or_first (is_one_of (own_of l) s) (list_any (λ p. own_take_from n (own_of l) p && is_at n s p) (range_with_len 0 (length n.tokens)))
-      (contained_any (λ o. o == s) (own_of l) s (led_own l s below e) (eq-eqb s s refl))
+      or_left (is_one_of (own_of l) s) (list_any (λ p. own_take_from n (own_of l) p && is_at n s p) (range_with_len 0 (length n.tokens)))
+      (one_of-contained (own_of l) s (led_own l s below e))
 
   own_leads : (l s : ℕ) → is_one_of (own_of l) s ≡ true → leader_of leaders s ≡ l
-  own_leads l s e =
-      let f = passing (λ o. o == s) (own_of l) e in
-      ap (leader_of leaders) (sym (eqb-true f.item s f.passes)) ∙ (own_led l f.item (f.at, f.inside, f.item_is f.item)).1
+  own_leads l s e = (own_led l s (contained-one_of (own_of l) s e)).1
 
   place_seen : (l s p : ℕ) → is_driven_at n.signals l ≡ true → leader_of leaders l ≡ l → own_take_from n (own_of l) p ≡ true → is_at n s p ≡ true → list_any (shows n leaders takers l s) n.arcs ≡ true
   place_seen l s p output e takes at =
@@ -130,28 +107,28 @@ module _ (n : NetLists) (leaders : List ℕ) (takers : List (Option ℕ)) (j : I
       let here : taker_at takers f.item.place ≡ Some by.by = ap (taker_at takers) (eqb-true f.item.place p parts.0) ∙ by.by_is in
       let led : is_led leaders l (taker_at takers f.item.place) ≡ true = ap (is_led leaders l) here ∙ eq-eqb (leader_of leaders by.by) l (sym by.same ∙ own.1) in
       list_any_at (shows n leaders takers l s) n.arcs f.at f.item f.inside
-      (ap (shows n leaders takers l s) (f.item_is f.item) ∙ both (is_led leaders l (taker_at takers f.item.place)) (signal_of n f.item == s) led parts.1)
+      (ap (shows n leaders takers l s) (f.item_is f.item) ∙ and_from (is_led leaders l (taker_at takers f.item.place)) (signal_of n f.item == s) led parts.1)
 
   known_seen : (l s : ℕ) → is_driven_at n.signals l ≡ true → leader_of leaders l ≡ l → is_known_to n (own_of l) s ≡ true → ((slice_index leaders s == l) || list_any (shows n leaders takers l s) n.arcs) ≡ true
-  known_seen l s output e known = elim (or_either (is_one_of (own_of l) s) (list_any (λ p. own_take_from n (own_of l) p && is_at n s p) (range_with_len 0 (length n.tokens))) known) [
-    | inl own ↦ or_first (slice_index leaders s == l) (list_any (shows n leaders takers l s) n.arcs) (eq-eqb (leader_of leaders s) l (own_leads l s own))
+  known_seen l s output e known = elim (or_cases (is_one_of (own_of l) s) (list_any (λ p. own_take_from n (own_of l) p && is_at n s p) (range_with_len 0 (length n.tokens))) known) [
+    | inl own ↦ or_left (slice_index leaders s == l) (list_any (shows n leaders takers l s) n.arcs) (eq-eqb (leader_of leaders s) l (own_leads l s own))
     | inr at ↦
         let f = passing (λ p. own_take_from n (own_of l) p && is_at n s p) (range_with_len 0 (length n.tokens)) at in
         let parts = and_parts (own_take_from n (own_of l) f.item) (is_at n s f.item) f.passes in
-        or_second (slice_index leaders s == l) (list_any (shows n leaders takers l s) n.arcs) (place_seen l s f.item output e parts.0 parts.1)
+        or_right (slice_index leaders s == l) (list_any (shows n leaders takers l s) n.arcs) (place_seen l s f.item output e parts.0 parts.1)
   ]
 
   -- what the group's marks show is what it has to know
-  known_same : (marks : List Bool) (l : ℕ) → IsNet n → AreMarks n leaders takers marks → is_driven_at n.signals l ≡ true → leader_of leaders l ≡ l → (group_of (length leaders) leaders marks l).known ≡ known_to n (own_of l)
+  known_same : (marks : List Bool) (l : ℕ) → IsNet n → AreMarks n leaders takers marks → is_driven_at n.signals l ≡ true → leader_of leaders l ≡ l → (group_of leaders marks l).known ≡ known_to n (own_of l)
   known_same marks l net are output e =
-      ap (numbers_where (λ s. (slice_index leaders s == l) || get_or marks (l * length leaders + s) false)) j.led.long
-      ∙ numbers_agree (λ s. (slice_index leaders s == l) || get_or marks (l * length leaders + s) false) (is_known_to n (own_of l)) (length n.signals) (λ s below. same s (omega (arith, below, j.led.long)))
+      ap (numbers_where (is_known_by leaders marks l)) j.led.long
+      ∙ numbers_where-agree (is_known_by leaders marks l) (is_known_to n (own_of l)) (length n.signals) (λ s below. same s (omega (arith, below, j.led.long)))
     where
-      same : (s : ℕ) → s < length leaders → ((slice_index leaders s == l) || get_or marks (l * length leaders + s) false) ≡ is_known_to n (own_of l) s
+      same : (s : ℕ) → s < length leaders → is_known_by leaders marks l s ≡ is_known_to n (own_of l) s
       same s below =
           ap (λ b. (slice_index leaders s == l) || b) (are l s below)
           ∙ bool_same ((slice_index leaders s == l) || list_any (shows n leaders takers l s) n.arcs) (is_known_to n (own_of l) s)
-          (λ h. elim (or_either (slice_index leaders s == l) (list_any (shows n leaders takers l s) n.arcs) h) [
+          (λ h. elim (or_cases (slice_index leaders s == l) (list_any (shows n leaders takers l s) n.arcs) h) [
             | inl led ↦ own_is_known l s below (eqb-true (leader_of leaders s) l led)
             | inr seen ↦ seen_known l s net seen
           ])
@@ -180,10 +157,10 @@ module _ (n : NetLists) (leaders : List ℕ) (takers : List (Option ℕ)) (j : I
       let fixed = j.led.fixed s below in
       let l_below : l < length leaders = omega (arith, j.led.low s below, below) in
       let out = joined_driven n s l output (j.led.joined s l below l_below (sym fixed)) in
-      passing_contained (is_leader n leaders) (length leaders) l l_below (both (is_driven_at n.signals l) (slice_index leaders l == l) out (eq-eqb (leader_of leaders l) l fixed))
+      passing_contained (is_leader n leaders) (length leaders) l l_below (and_from (is_driven_at n.signals l) (slice_index leaders l == l) out (eq-eqb (leader_of leaders l) l fixed))
 
   abbrev group : List Bool → ℕ → Group
-  group marks l = group_of (length leaders) leaders marks l
+  group marks l = group_of leaders marks l
 
   abbrev all_groups : List Bool → List Group
   all_groups marks = map (group marks) first_ones
@@ -219,7 +196,7 @@ module _ (n : NetLists) (leaders : List ℕ) (takers : List (Option ℕ)) (j : I
       )
 
   -- the groups of all leaders
-  pub plain_groups_of : (marks : List Bool) (groups : List Group) → IsNet n → AreMarks n leaders takers marks → groups ≡ map (group_of (length leaders) leaders marks) first_ones → ArePlainGroups n groups
+  pub plain_groups_of : (marks : List Bool) (groups : List Group) → IsNet n → AreMarks n leaders takers marks → groups ≡ map (group_of leaders marks) first_ones → ArePlainGroups n groups
   plain_groups_of marks groups net are same = subst (ArePlainGroups n) (sym same) (record {
     plain = each_group marks (λ g. IsPlainGroup n g.own) (λ l leads. plain_group l leads.output leads.itself);
     whole = groups_whole marks;

@@ -2,7 +2,7 @@
 use Rattle.std.proofs.Common.{◌≡◌, ◌≢◌, ℕ, ◌+◌, ◌<◌, ◌≤◌, ◌&&◌, ◌⊎◌, not, min, max, true, false, List, [], ◌∷◌, length, get_or, All, IfSome, Option, Some, None, IsTrue, refl, sym, ap, ◌∙◌, subst, arith, eq-eqb, inl, inr, get_or-set_same, get_or-set_other, length-set}
 use Rattle.std.proofs.Math.ListN.{set}
 use Rattle.std.specs.List.{range_with_len}
-use Rattle.std.proofs.lemmas.Bool.{and_parts, cases_Bool, cases_eq, cases_lt, ne_eqb}
+use Rattle.std.proofs.lemmas.Bool.{and_parts, not-true, cases_Bool, cases_eq, cases_lt, ne_eqb}
 use Rattle.std.proofs.lemmas.Option.{same_Some}
 use Rattle.std.proofs.lemmas.List.{get_or_default, get_or_past}
 use Rattle.std.proofs.lemmas.List.FromFn.{length-range_with_len, get_or-range_with_len}
@@ -10,7 +10,7 @@ use Rattle.stg_net.specs.declared.arc.NetArc.{NetArc}
 use Rattle.stg_net.specs.Net.{NetLists, IsNet}
 use Rattle.stg_laws.specs.Groups.{signal_of, is_driven_at, takes_from, share_place, in_conflict, LeadsTo, AreJoined}
 use Rattle.stg_partition.specs.Joining.{own_taker, relabelled, joined, taker_at, with_first, with_taker, new_leader, IsLedWith, IsLed, IsJoining}
-use Rattle.stg_partition.proofs.Conflicts.{taker, takes_by, shared, conflict_at, joined_on, joined_itself, joined_once, joined_back, not_true}
+use Rattle.stg_partition.proofs.Conflicts.{taker, takes_by, shared, conflict_at, joined_on, joined_itself, joined_once, joined_back}
 
 -- the leader of a signal
 abbrev pub leader_of : List ℕ → ℕ → ℕ
@@ -122,7 +122,7 @@ own_parts n a s e = elim (cases_Bool (not a.into && is_driven_at n.signals (sign
   | inl t ↦
       let same : signal_of n a ≡ s = same_Some (signal_of n a) s (rw t at e) in
       let parts = and_parts (not a.into) (is_driven_at n.signals (signal_of n a)) t in
-      record { out = not_true a.into parts.0; output = ap (is_driven_at n.signals) (sym same) ∙ parts.1; signal_is = same }
+      record { out = not-true a.into parts.0; output = ap (is_driven_at n.signals) (sym same) ∙ parts.1; signal_is = same }
   | inr f ↦ let none : None ≡ Some s = rw f at e in absurd (cc)
 ]
 

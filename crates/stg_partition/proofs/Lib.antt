@@ -7,4 +7,3 @@ pub mod Numbers
 pub mod Grouping
 pub mod Unique
 pub mod Closing
-pub mod Sharing

@@ -1,5 +1,5 @@
 -- The numbers below a bound that pass a test.
-use Rattle.std.proofs.Common.{◌≡◌, ℕ, zero, suc, ◌+◌, ◌<◌, Bool, true, false, cond, [], ◌∷◌, ◌++◌, get_or, All, Contains, slice_index, refl, sym, ◌∙◌, subst, arith, inl, inr}
+use Rattle.std.proofs.Common.{◌≡◌, ℕ, zero, suc, ◌+◌, ◌<◌, Bool, true, false, [], get_or, All, Contains, slice_index, refl, sym, ◌∙◌, subst, arith, inl, inr}
 use Rattle.std.specs.List.{range_with_len}
 use Rattle.std.specs.List.Sorted.{IsStrictlyIncreasing}
 use Rattle.std.proofs.lemmas.Bool.{cases_Bool, cases_lt, cases_order, false≢true}
@@ -74,8 +74,3 @@ first_number test n k below e lower =
           let at = get_or_default (numbers_where test n) 0 0 k (omega (arith, c.1)) in
           absurd (omega (arith, rise, c.2, l, at))
     ]
-
--- tests that agree below the bound pass the same numbers
-pub numbers_agree : (f g : ℕ → Bool) (n : ℕ) → ((k : ℕ) → k < n → f k ≡ g k) → numbers_where f n ≡ numbers_where g n
-numbers_agree f g zero same = refl
-numbers_agree f g (suc n) same = (λ j. numbers_agree f g n (λ k below. same k (omega arith)) j ++ cond (same n (omega arith) j) (n ∷ []) [])

@@ -1,17 +1,18 @@
 -- The plain groups of the nets of Examples.
-use Rattle.std.proofs.Common.{◌≡◌, ◌<◌, ◌&&◌, ◌||◌, ◌==◌, ℕ, zero, suc, not, Bool, true, List, [], ◌∷◌, length, get_or, All, Any, AllPairs, Contains, IsTrue, refl, sym, ap, ◌∙◌, subst, arith}
+use Rattle.std.proofs.Common.{◌≡◌, ◌<◌, ◌&&◌, ◌||◌, ℕ, zero, suc, not, Bool, true, List, [], ◌∷◌, length, get_or, All, Any, AllPairs, Contains, IsTrue, refl, sym, ap, ◌∙◌, subst, arith}
 use Rattle.std.specs.List.{list_all, range_with_len}
 use Rattle.std.specs.List.Sorted.{IsStrictlyIncreasing}
-use Rattle.std.proofs.lemmas.Bool.{and_parts, eqb-true, false≢true}
+use Rattle.std.proofs.lemmas.Bool.{and_parts, false≢true}
 use Rattle.std.proofs.lemmas.List.Elements.{All-nil, All-cons}
 use Rattle.std.proofs.lemmas.List.FromFn.{length-range_with_len, get_or-range_with_len}
 use Rattle.std.proofs.lemmas.List.Sums.{AllPass-from_list_all}
 use Rattle.stg_net.specs.Net.{NetLists}
 use Rattle.stg_net.specs.Component.{is_one_of}
+use Rattle.stg_net.proofs.Members.{contained-one_of}
 use Rattle.stg_laws.specs.Groups.{is_driven_at, share_place, in_conflict, known_to, LeadsTo, AreJoined, IsPlainGroup, least_own}
 use Rattle.stg_partition.specs.declared.group.Group.{Group}
 use Rattle.stg_partition.specs.PlainGroups.{ArePlainGroups}
-use Rattle.stg_partition.proofs.Conflicts.{passing, driven_there, joined_itself}
+use Rattle.stg_partition.proofs.Conflicts.{driven_there, joined_itself}
 use Rattle.stg_partition.proofs.Examples.{bus, shared, linked}
 
 -- whether all that is in conflict with an own signal is own
@@ -28,8 +29,7 @@ conflict_own n own x y e c f =
     let at : get_or (range_with_len 0 (length n.signals)) y 0 ≡ y = omega (arith, get_or-range_with_len 0 (length n.signals) y 0 there) in
     let cell : test y ≡ true = ap test (sym at) ∙ AllPass-from_list_all test (range_with_len 0 (length n.signals)) row y 0 (omega (arith, there, length-range_with_len 0 (length n.signals))) in
     let own_y : is_one_of own y ≡ true = rw f at cell in
-    let found = passing (λ o. o == y) own own_y in
-    subst (λ s. Contains own s) (eqb-true found.item y found.passes) (found.at, found.inside, found.item_is found.item)
+    contained-one_of own y own_y
 
 leads_own : (n : NetLists) (own : List ℕ) (x y : ℕ) (path : List ℕ) → stays n own ≡ true → Contains own x → LeadsTo n x path y → Contains own y
 leads_own n own x y [] e c leads = subst (λ s. Contains own s) leads c

@@ -1,9 +1,9 @@
 -- A net has one list of plain groups.
-use Rattle.std.proofs.Common.{◌≡◌, ℕ, zero, suc, ◌<◌, ◌≤◌, ◌⊎◌, List, [], ◌∷◌, length, get_or, map, AllPairs, Contains, IsTrue, refl, sym, ap, ◌∙◌, subst, arith, inl, inr}
-use Rattle.std.proofs.lemmas.Bool.{cases_lt}
-use Rattle.std.proofs.lemmas.List.{get_or_default, get_or-map, length-map, same_lists}
+use Rattle.std.proofs.Common.{◌≡◌, ℕ, zero, suc, ◌<◌, ◌⊎◌, List, [], ◌∷◌, length, get_or, map, AllPairs, Contains, IsTrue, refl, sym, ap, ◌∙◌, subst, arith, inl, inr}
+use Rattle.std.proofs.lemmas.List.{get_or-map, length-map, same_lists}
 use Rattle.std.proofs.lemmas.List.Kept.{AllPairs-from_increasing}
 use Rattle.stg_net.specs.Net.{NetLists}
+use Rattle.stg_net.proofs.Members.{first_least}
 use Rattle.stg_laws.specs.Groups.{is_driven_at, known_to, AreJoined, IsPlainGroup, least_own}
 use Rattle.stg_partition.specs.declared.group.Group.{Group}
 use Rattle.stg_partition.specs.PlainGroups.{ArePlainGroups}
@@ -61,17 +61,6 @@ same_members (x ∷ xs) (y ∷ ys) rise_x rise_y to from =
     let same = same_head x y xs ys rise_x rise_y to from in
     (λ i. same i ∷ same_members xs ys (tail_rise x xs rise_x) (tail_rise y ys rise_y) (tail_in x y xs ys same rise_x to) (tail_in y x ys xs (sym same) rise_y from) i)
 
--- the least signal of a group is below its others
-least_below : (n : NetLists) (own : List ℕ) (s : ℕ) → IsPlainGroup n own → Contains own s → least_own own ≤ s
-least_below n own s g c = elim (cases_lt 0 c.0) [
-  | inl pos ↦ omega (arith, AllPairs-from_increasing own g.ascends 0 c.0 s pos c.1, c.2, get_or_default own 0 0 s (omega (arith, c.1)))
-  | inr none ↦
-      let here : 0 ≡ c.0 = omega arith in
-      let P : ℕ → Type 0 = λ k. get_or own k s ≡ s in
-      let first : get_or own 0 s ≡ s = subst P (sym here) c.2 in
-      omega (arith, first, get_or_default own 0 0 s (omega (arith, c.1)))
-]
-
 abbrev leasts : List Group → List ℕ
 leasts groups = map (λ (g : Group). least_own g.own) groups
 
@@ -102,7 +91,7 @@ leasts_in n groups others a b s c =
     let back : AreJoined n (least_own other.own) s = (two.joined s).0 found.4 in
     let P : ℕ → Type 0 = λ x. AreJoined n x (least_own other.own) in
     let member = (one.joined (least_own other.own)).1 (subst P (sym s_is) (joined_back n (least_own other.own) s back)) in
-    let same : least_own other.own ≡ s = omega (arith, least_below n other.own s two found.4, least_below n g.own (least_own other.own) one member, s_is) in (
+    let same : least_own other.own ≡ s = omega (arith, first_least other.own s two.ascends found.4, first_least g.own (least_own other.own) one.ascends member, s_is) in (
       m,
       omega (arith, found.2, length-map others (λ (x : Group). least_own x.own)),
       least_at others m s other found.2 ∙ ap (λ (x : Group). least_own x.own) found.3 ∙ same,

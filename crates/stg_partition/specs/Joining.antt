@@ -1,8 +1,9 @@
 -- What a pass over the arcs of a net does: each signal has a leader, and each place a signal that takes from it.
-use Rattle.std.specs.Prelude.{◌≡◌, ◌<◌, ◌≤◌, ⊤, All, IfSome, IsTrue, length, ℕ, ◌+◌, ◌*◌, min, max, Bool, false, not, ◌&&◌, ◌||◌, ◌==◌, List, Option, Some, None, slice_index, slice_index_or, slice_set, if◌then◌else◌}
+use Rattle.std.specs.Prelude.{◌≡◌, ◌<◌, ◌≤◌, ⊤, All, IfSome, IsTrue, length, map, ℕ, ◌+◌, ◌*◌, min, max, Bool, false, not, ◌&&◌, ◌||◌, ◌==◌, List, Option, Some, None, slice_index, slice_index_or, slice_set, if◌then◌else◌}
+use Rattle.std.specs.List.{list_any}
 use Rattle.stg_net.specs.declared.arc.NetArc.{NetArc}
 use Rattle.stg_net.specs.Net.{NetLists}
-use Rattle.stg_net.specs.Ordered.{numbers_with, numbers_where}
+use Rattle.stg_net.specs.Ordered.{only_where, numbers_with, numbers_where}
 use Rattle.stg_laws.specs.Groups.{signal_of, is_driven_at, takes_from, AreJoined}
 use Rattle.stg_partition.specs.declared.group.Group.{Group}
 
@@ -10,6 +11,7 @@ use Rattle.stg_partition.specs.declared.group.Group.{Group}
 abbrev pub own_taker : NetLists → NetArc → Option ℕ
 own_taker n a = if not a.into && is_driven_at n.signals (signal_of n a) then Some (signal_of n a) else None
 
+-- the leader in place of an old one, where one number is put for another
 abbrev pub relabelled : ℕ → ℕ → ℕ → ℕ
 relabelled from to leader = if leader == from then to else leader
 
@@ -17,9 +19,11 @@ relabelled from to leader = if leader == from then to else leader
 abbrev pub joined : List ℕ → ℕ → ℕ → ℕ → ℕ
 joined leaders x y leader = relabelled (max (slice_index leaders x) (slice_index leaders y)) (min (slice_index leaders x) (slice_index leaders y)) leader
 
+-- the taker of the place of that number
 abbrev pub taker_at : List (Option ℕ) → ℕ → Option ℕ
 taker_at takers p = slice_index_or takers p None
 
+-- the takers where s is that of p, unless p has one
 abbrev pub with_first : Option ℕ → ℕ → ℕ → List (Option ℕ) → List (Option ℕ)
 with_first None s p takers = slice_set takers p (Some s)
 with_first (Some t) s p takers = takers
@@ -34,6 +38,14 @@ abbrev pub new_leader : Option ℕ → Option ℕ → List ℕ → ℕ → ℕ
 new_leader (Some s) (Some t) leaders leader = joined leaders t s leader
 new_leader (Some s) None leaders leader = leader
 new_leader None taker leaders leader = leader
+
+-- the leader in place of an old one, after an arc
+abbrev pub leader_after : NetLists → NetArc → List (Option ℕ) → List ℕ → ℕ → ℕ
+leader_after n a takers leaders leader = new_leader (own_taker n a) (taker_at takers a.place) leaders leader
+
+-- each leader is what the change makes of the old one
+abbrev pub AreChanged : (ℕ → ℕ) → List ℕ → List ℕ → Type 0
+AreChanged change old new = (s : ℕ) → s < length old → slice_index new s ≡ change (slice_index old s)
 
 -- the own taker has the leader of the taker of its place
 abbrev pub IsLedWith : List ℕ → Option ℕ → Option ℕ → Type 0
@@ -65,13 +77,41 @@ is_led leaders leader (Some s) = slice_index leaders s == leader
 abbrev pub shows : NetLists → List ℕ → List (Option ℕ) → ℕ → ℕ → NetArc → Bool
 shows n leaders takers leader s a = is_led leaders leader (taker_at takers a.place) && (signal_of n a == s)
 
--- the group of the leader, which sees what the marks tell
-abbrev pub group_of : ℕ → List ℕ → List Bool → ℕ → Group
-group_of size leaders marks leader = record {
-  own = numbers_with (slice_index leaders) size leader;
-  known = numbers_where (λ s. (slice_index leaders s == leader) || slice_index_or marks (leader * size + s) false) size;
+-- whether an arc of the net shows the signal to the group of the leader
+abbrev pub is_seen : NetLists → List ℕ → List (Option ℕ) → ℕ → ℕ → Bool
+is_seen n leaders takers leader s = list_any (shows n leaders takers leader s) n.arcs
+
+-- the mark of a leader and a signal, in rows of that size
+abbrev pub is_marked : ℕ → List Bool → ℕ → ℕ → Bool
+is_marked size marks leader s = slice_index_or marks (leader * size + s) false
+
+-- the new marks are the old ones and what is seen
+abbrev pub IsMarkedWith : ℕ → (ℕ → ℕ → Bool) → List Bool → List Bool → Type 0
+IsMarkedWith size sees old new = (l s : ℕ) → s < size → is_marked size new l s ≡ (is_marked size old l s || sees l s)
+
+-- what the marks of a net tell
+abbrev pub AreMarks : NetLists → List ℕ → List (Option ℕ) → List Bool → Type 0
+AreMarks n leaders takers marks = (l s : ℕ) → s < length leaders → is_marked (length leaders) marks l s ≡ is_seen n leaders takers l s
+
+-- whether the group of the leader knows the signal, as the marks tell
+abbrev pub is_known_by : List ℕ → List Bool → ℕ → ℕ → Bool
+is_known_by leaders marks leader s = (slice_index leaders s == leader) || is_marked (length leaders) marks leader s
+
+-- the group of the leader, which knows what the marks tell
+abbrev pub group_of : List ℕ → List Bool → ℕ → Group
+group_of leaders marks leader = record {
+  own = numbers_with (slice_index leaders) (length leaders) leader;
+  known = numbers_where (is_known_by leaders marks leader) (length leaders);
 }
 
 -- whether the signal is an output or internal and its own leader
 abbrev pub is_leader : NetLists → List ℕ → ℕ → Bool
 is_leader n leaders s = is_driven_at n.signals s && (slice_index leaders s == s)
+
+-- the group of that signal, where it leads one
+abbrev pub groups_at : NetLists → List ℕ → List Bool → ℕ → List Group
+groups_at n leaders marks s = map (group_of leaders marks) (only_where (is_leader n leaders) s)
+
+-- the groups of the leaders below a number, in ascending order
+abbrev pub groups_below : NetLists → List ℕ → List Bool → ℕ → List Group
+groups_below n leaders marks k = map (group_of leaders marks) (numbers_where (is_leader n leaders) k)

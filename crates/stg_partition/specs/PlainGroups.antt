@@ -16,3 +16,7 @@ pub record ArePlainGroups (n : NetLists) (groups : List Group) : Type 0 where
 -- each group knows the signals of all arcs at the places from which its own transitions take
 abbrev pub AreClosed : NetLists → List Group → Type 0
 AreClosed n groups = All (λ (group : Group). IsClosed (graph_of n) (names_at n group.own) (names_at n group.known)) groups
+
+-- a net has one list of plain groups
+abbrev pub HasOneGrouping : Type 0
+HasOneGrouping = (n : NetLists) (groups others : List Group) → ArePlainGroups n groups → ArePlainGroups n others → groups ≡ others

@@ -2,9 +2,11 @@
 
 use stg_net::Nums;
 
-/// The signals that a component drives, and those that its group knows; both ascend.
+/// A group of signals, by their numbers.
 #[derive(Debug, Drop)]
 pub struct Group {
+    /// The signals that its component drives, in ascending order.
     pub own: Nums,
+    /// The signals that it knows, in ascending order.
     pub known: Nums,
 }

@@ -1,29 +1,18 @@
 //! Signals in conflict get one leader, the least of them.
 
-ghost use Rattle.std.specs.Prelude.{◌≡◌, ℕ, ◌<◌, length, slice_index, All, IfOk, IfSome};
-ghost use Rattle.std.specs.List.{range_with_len};
+ghost use Rattle.std.specs.Prelude.{◌≡◌, ◌<◌, length, All, IfOk, IfSome};
 ghost use Rattle.stg_laws.specs.Stgs.{is_driven};
 ghost use Rattle.stg_laws.specs.Groups.{signal_of, is_driven_at};
-ghost use Rattle.stg_partition.specs.Joining.{own_taker, relabelled, joined, taker_at, with_taker, new_leader, IsJoining};
+ghost use Rattle.stg_partition.specs.Joining.{own_taker, relabelled, joined, with_taker, leader_after, AreChanged, IsJoining};
 
 use std::alloc::Global;
-use stg_net::{Kind, Net, NetArc, NoMemory};
+use stg_net::{Kind, Net, NetArc, NoMemory, numbers_below};
 
 /// The leader of each signal, and the taker of each place.
 #[derive(Debug, Drop)]
 pub(crate) struct Joined {
     pub leaders: Vec<u32>,
     pub takers: Vec<Option<u32>>,
-}
-
-fn number_all(alloc: Global, count: u32) -> Result<Vec<u32>, NoMemory>
-    ensures { IfOk result (λ all. all.items ≡ range_with_len 0 count) }
-{
-    let mut all = Vec::new(alloc);
-    for k in 0..count {
-        all.push(k)?;
-    }
-    Ok(all)
 }
 
 fn no_takers(alloc: Global, places: usize) -> Result<Vec<Option<u32>>, NoMemory>
@@ -74,7 +63,7 @@ fn own_taker(net: &Net, arc: NetArc) -> Option<u32>
 }
 
 fn relabel(leaders: &mut [u32], from: u32, to: u32)
-    ensures { (s : ℕ) → s < length leaders.old → slice_index leaders.new s ≡ relabelled from to (slice_index leaders.old s) }
+    ensures { AreChanged (relabelled from to) leaders.old leaders.new }
 {
     for leader in leaders.iter_mut() {
         if *leader == from {
@@ -86,7 +75,7 @@ fn relabel(leaders: &mut [u32], from: u32, to: u32)
 fn join(leaders: &mut [u32], x: u32, y: u32)
     requires x { x < length leaders.old }
     requires y { y < length leaders.old }
-    ensures { (s : ℕ) → s < length leaders.old → slice_index leaders.new s ≡ joined leaders.old x y (slice_index leaders.old s) }
+    ensures { AreChanged (joined leaders.old x y) leaders.old leaders.new }
 {
     let one = leaders[x as usize];
     let other = leaders[y as usize];
@@ -101,7 +90,7 @@ fn join_arc(net: &Net, leaders: &mut [u32], takers: &mut [Option<u32>], arc: Net
     requires signals { length leaders.old ≡ length net.now.signals }
     requires takers { All (λ taker. IfSome taker (λ s. s < length leaders.old)) takers.old }
     ensures takers { takers.new ≡ with_taker (own_taker net.now arc) arc.place takers.old }
-    ensures leaders { (s : ℕ) → s < length leaders.old → slice_index leaders.new s ≡ new_leader (own_taker net.now arc) (taker_at takers.old arc.place) leaders.old (slice_index leaders.old s) }
+    ensures leaders { AreChanged (leader_after net.now arc takers.old leaders.old) leaders.old leaders.new }
 {
     let place = arc.place as usize;
     if let Some(signal) = own_taker(net, arc) {
@@ -126,7 +115,7 @@ fn join_all(net: &Net, leaders: &mut [u32], takers: &mut [Option<u32>])
 pub(crate) fn join_signals(alloc: Global, net: &Net) -> Result<Joined, NoMemory>
     ensures { IfOk result (λ j. IsJoining net.now (length net.now.arcs) j.leaders.items j.takers.items) }
 {
-    let mut leaders = number_all(alloc, net.signals().len() as u32)?;
+    let mut leaders = numbers_below(alloc, net.signals().len() as u32)?.into_vec();
     let mut takers = no_takers(alloc, net.tokens().len())?;
     join_all(net, leaders.as_mut_slice(), takers.as_mut_slice());
     Ok(Joined { leaders, takers })

@@ -1,8 +1,7 @@
 //! Which signals each group sees at the places from which its own signals take.
 
-ghost use Rattle.std.specs.Prelude.{◌≡◌, ℕ, ◌+◌, ◌*◌, ◌<◌, ◌≤◌, ◌||◌, false, length, slice_index_or, All, IfOk, IfSome};
-ghost use Rattle.std.specs.List.{list_any};
-ghost use Rattle.stg_partition.specs.Joining.{shows, IsJoining};
+ghost use Rattle.std.specs.Prelude.{◌≡◌, ◌+◌, ◌*◌, ◌<◌, ◌≤◌, false, length, All, IfOk, IfSome};
+ghost use Rattle.stg_partition.specs.Joining.{shows, is_seen, IsMarkedWith, AreMarks, IsJoining};
 
 use crate::join::{Joined, signal_of};
 use std::alloc::Global;
@@ -27,7 +26,7 @@ fn mark_arc(net: &Net, leaders: &[u32], takers: &[Option<u32>], marks: &mut [boo
     requires takers { All (λ taker. IfSome taker (λ s. s < length leaders.now)) takers.now }
     requires leaders { All (λ leader. leader < length leaders.now) leaders.now }
     requires marks { length marks.old ≡ length leaders.now * length leaders.now }
-    ensures { (l s : ℕ) → s < length leaders.now → slice_index_or marks.new (l * length leaders.now + s) false ≡ (slice_index_or marks.old (l * length leaders.now + s) false || shows net.now leaders.now takers.now l s arc) }
+    ensures { IsMarkedWith (length leaders.now) (λ l s. shows net.now leaders.now takers.now l s arc) marks.old marks.new }
 {
     if let Some(taker) = takers[arc.place as usize] {
         let leader = leaders[taker as usize];
@@ -43,7 +42,7 @@ fn mark_arcs(net: &Net, leaders: &[u32], takers: &[Option<u32>], marks: &mut [bo
     requires takers { All (λ taker. IfSome taker (λ s. s < length leaders.now)) takers.now }
     requires leaders { All (λ leader. leader < length leaders.now) leaders.now }
     requires marks { length marks.old ≡ length leaders.now * length leaders.now }
-    ensures { (l s : ℕ) → s < length leaders.now → slice_index_or marks.new (l * length leaders.now + s) false ≡ (slice_index_or marks.old (l * length leaders.now + s) false || list_any (shows net.now leaders.now takers.now l s) net.now.arcs) }
+    ensures { IsMarkedWith (length leaders.now) (is_seen net.now leaders.now takers.now) marks.old marks.new }
 {
     for arc in net.arcs() {
         mark_arc(net, leaders, takers, marks, *arc);
@@ -55,7 +54,7 @@ pub(crate) fn mark_all(alloc: Global, net: &Net, joined: &Joined) -> Result<Vec<
     requires joined { IsJoining net.now (length net.now.arcs) joined.now.leaders.items joined.now.takers.items }
     requires few { length net.now.signals ≤ 250 }
     ensures long { IfOk result (λ marks. length marks.items ≡ length joined.now.leaders.items * length joined.now.leaders.items) }
-    ensures value { IfOk result (λ marks. (l s : ℕ) → s < length joined.now.leaders.items → slice_index_or marks.items (l * length joined.now.leaders.items + s) false ≡ list_any (shows net.now joined.now.leaders.items joined.now.takers.items l s) net.now.arcs) }
+    ensures value { IfOk result (λ marks. AreMarks net.now joined.now.leaders.items joined.now.takers.items marks.items) }
 {
     let leaders = joined.leaders.as_slice();
     let size = leaders.len();

@@ -1,9 +1,9 @@
 //! The plain groups.
 
-ghost use Rattle.std.specs.Prelude.{◌≡◌, ◌+◌, ◌*◌, ◌<◌, ◌≤◌, ◌++◌, ◌==◌, ◌||◌, false, length, map, slice_index, slice_index_or, IfOk, OnOk};
-ghost use Rattle.stg_net.specs.Ordered.{numbers_with, numbers_where, only_where};
-ghost use Rattle.stg_partition.specs.Joining.{group_of, is_leader};
-ghost use Rattle.stg_partition.specs.PlainGroups.{ArePlainGroups, AreClosed};
+ghost use Rattle.std.specs.Prelude.{◌≡◌, ◌*◌, ◌<◌, ◌≤◌, ◌++◌, length, slice_index, IfOk, OnOk};
+ghost use Rattle.stg_net.specs.Ordered.{numbers_with};
+ghost use Rattle.stg_partition.specs.Joining.{is_known_by, group_of, is_leader, groups_at, groups_below};
+ghost use Rattle.stg_partition.specs.PlainGroups.{ArePlainGroups, AreClosed, HasOneGrouping};
 
 use crate::Group;
 use crate::join::{is_driven_at, join_signals};
@@ -29,7 +29,7 @@ fn knows(leaders: &[u32], marks: &[bool], leader: u32, s: u32) -> bool
     requires leader { leader < length leaders.now }
     requires signal { s < length leaders.now }
     requires marks { length marks.now ≡ length leaders.now * length leaders.now }
-    ensures { result ≡ ((slice_index leaders.now s == leader) || slice_index_or marks.now (leader * length leaders.now + s) false) }
+    ensures { result ≡ is_known_by leaders.now marks.now leader s }
 {
     leaders[s as usize] == leader || marks[cell(leaders.len(), leader, s)]
 }
@@ -38,7 +38,7 @@ fn list_known(alloc: Global, leaders: &[u32], marks: &[bool], leader: u32) -> Re
     requires few { length leaders.now ≤ 250 }
     requires leader { leader < length leaders.now }
     requires marks { length marks.now ≡ length leaders.now * length leaders.now }
-    ensures { IfOk result (λ known. known ≡ (group_of (length leaders.now) leaders.now marks.now leader).known) }
+    ensures { IfOk result (λ known. known ≡ (group_of leaders.now marks.now leader).known) }
 {
     let mut known = Seq::new(alloc);
     for s in 0..leaders.len() as u32 {
@@ -58,7 +58,7 @@ fn make_group(
     requires few { length leaders.now ≤ 250 }
     requires leader { leader < length leaders.now }
     requires marks { length marks.now ≡ length leaders.now * length leaders.now }
-    ensures { IfOk result (λ group. group ≡ group_of (length leaders.now) leaders.now marks.now leader) }
+    ensures { IfOk result (λ group. group ≡ group_of leaders.now marks.now leader) }
 {
     let own = list_own(alloc, leaders, leader)?;
     let known = list_known(alloc, leaders, marks, leader)?;
@@ -85,7 +85,7 @@ fn push_group(
     requires few { length leaders.now ≤ 250 }
     requires signal { s < length leaders.now }
     requires marks { length marks.now ≡ length leaders.now * length leaders.now }
-    ensures { OnOk result (groups.new ≡ groups.old ++ map (group_of (length leaders.now) leaders.now marks.now) (only_where (is_leader net.now leaders.now) s)) }
+    ensures { OnOk result (groups.new ≡ groups.old ++ groups_at net.now leaders.now marks.now s) }
 {
     if leads(net, leaders, s) {
         groups.push(make_group(alloc, leaders, marks, s)?)?;
@@ -102,7 +102,7 @@ fn list_groups(
     requires signals { length leaders.now ≡ length net.now.signals }
     requires few { length leaders.now ≤ 250 }
     requires marks { length marks.now ≡ length leaders.now * length leaders.now }
-    ensures { IfOk result (λ groups. groups ≡ map (group_of (length leaders.now) leaders.now marks.now) (numbers_where (is_leader net.now leaders.now) (length leaders.now))) }
+    ensures { IfOk result (λ groups. groups ≡ groups_below net.now leaders.now marks.now (length leaders.now)) }
 {
     let mut groups = Seq::new(alloc);
     for s in 0..leaders.len() as u32 {
@@ -122,3 +122,8 @@ pub fn plain_groups(alloc: Global, spec: &Spec) -> Result<Seq<Group>, NoMemory>
     let marks = mark_all(alloc, net, &joined)?;
     list_groups(alloc, net, joined.leaders.as_slice(), marks.as_slice())
 }
+
+/// A net has one list of plain groups.
+pub fn law_one_grouping()
+    ensures { HasOneGrouping }
+{}

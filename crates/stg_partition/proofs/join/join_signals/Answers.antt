@@ -8,7 +8,7 @@ use Rattle.stg_partition.proofs.join.join_signals.Goals as goal
 
 pub join_all-requires : goal.join_all-requires
 join_all-requires c =
-    let leaders = c.as_mut_slice.ensures.value ∙ c.in_ok-leaders.ensures ∙ ap (λ (xs : List Signal). range_with_len 0 (length xs)) c.signals.ensures.signals in
+    let leaders = c.as_mut_slice.ensures.value ∙ c.into_vec-leaders.ensures ∙ c.in_ok-numbers_below.ensures ∙ ap (λ (xs : List Signal). range_with_len 0 (length xs)) c.signals.ensures.signals in
     let All_none : List (Option ℕ) → Type 0 = λ xs. All (λ taker. taker ≡ None) xs in
     let none = subst All_none (sym c.as_mut_slice-2.ensures.value) c.in_ok-takers.ensures.none in
     let wide = ap (λ (xs : List (Option ℕ)). length xs) c.as_mut_slice-2.ensures.value ∙ c.in_ok-takers.ensures.long ∙ ap (λ (xs : List ℕ). length xs) c.tokens.ensures.tokens in

@@ -1,9 +1,8 @@
-use Rattle.std.proofs.Common.{◌≡◌, ◌∙◌, Bool, ℕ, List, length, map, ap, sym, subst}
+use Rattle.std.proofs.Common.{◌≡◌, ◌∙◌, Bool, ℕ, List, length, ap, sym, subst}
 use Rattle.std.proofs.lemmas.Result.{IfOk-weaker}
 use Rattle.stg_net.specs.Net.{NetLists, IsNet}
-use Rattle.stg_net.specs.Ordered.{numbers_where}
 use Rattle.stg_partition.specs.declared.group.Group.{Group}
-use Rattle.stg_partition.specs.Joining.{group_of, is_leader}
+use Rattle.stg_partition.specs.Joining.{groups_below}
 use Rattle.stg_partition.specs.PlainGroups.{ArePlainGroups, AreClosed}
 use Rattle.stg_partition.proofs.Grouping.{plain_groups_of}
 use Rattle.stg_partition.proofs.Closing.{groups_closed}
@@ -15,7 +14,7 @@ returns-clause-groups c =
     let leaders = c.in_ok-joined.joined.leaders.items in
     let takers = c.in_ok-joined.joined.takers.items in
     let marks = c.in_ok-marks.marks.items in
-    let groups_by : List ℕ → List Bool → List Group = λ ls ms. map (group_of (length ls) ls ms) (numbers_where (is_leader n ls) (length ls)) in
+    let groups_by : List ℕ → List Bool → List Group = λ ls ms. groups_below n ls ms (length ls) in
     let net = subst IsNet (sym c.net-net.ensures.net) c.net-net.ensures.spec.is_net in
     IfOk-weaker c.list_groups.result (λ groups. groups ≡ groups_by c.as_slice.result.now c.as_slice-2.result.now) (λ groups. ArePlainGroups c.args.spec.now.net groups)
     (λ groups same.
