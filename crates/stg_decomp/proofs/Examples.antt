@@ -1,12 +1,12 @@
 -- The parts of two independent handshakes, r1 with a1 and r2 with a2.
-use Rattle.std.proofs.Common.{◌≡◌, ℕ, true, false, List, [], ◌∷◌, refl, codes}
+use Rattle.std.proofs.Common.{◌≡◌, ℕ, List, [], ◌∷◌, refl, codes}
 use Rattle.stg_net.specs.declared.signal.Kind.TheVariants.{Input, Output}
 use Rattle.stg_net.specs.declared.signal.Signal.{Signal}
-use Rattle.stg_net.specs.declared.trans.Edge.{Edge}
 use Rattle.stg_net.specs.declared.trans.Edge.TheVariants.{Rise, Fall}
 use Rattle.stg_net.specs.declared.trans.TransName.{TransName}
 use Rattle.stg_net.specs.declared.arc.NetArc.{NetArc}
 use Rattle.stg_net.specs.Net.{NetLists}
+use Rattle.stg_net.proofs.Examples.{named, into, from}
 use Rattle.stg_partition.specs.declared.group.Group.{Group}
 use Rattle.stg_decomp.specs.Parts.{parts_of}
 
@@ -16,25 +16,16 @@ input name = record { name = name; kind = Input }
 abbrev output : List ℕ → Signal
 output name = record { name = name; kind = Output }
 
-abbrev name_of : ℕ → Edge → TransName
-name_of signal edge = record { signal = signal; edge = edge; index = 0 }
-
-abbrev into : ℕ → ℕ → NetArc
-into place trans = record { place = place; trans = trans; into = true; weight = 1 }
-
-abbrev out : ℕ → ℕ → NetArc
-out place trans = record { place = place; trans = trans; into = false; weight = 1 }
-
 abbrev tokens : List ℕ
 tokens = 0 ∷ 0 ∷ 0 ∷ 1 ∷ 0 ∷ 0 ∷ 0 ∷ 1 ∷ []
 
 abbrev arcs : List NetArc
-arcs = into 0 0 ∷ out 0 1 ∷ into 1 1 ∷ out 1 2 ∷ into 2 2 ∷ out 2 3 ∷ out 3 0 ∷ into 3 3
-    ∷ into 4 4 ∷ out 4 5 ∷ into 5 5 ∷ out 5 6 ∷ into 6 6 ∷ out 6 7 ∷ out 7 4 ∷ into 7 7 ∷ []
+arcs = into 0 0 ∷ from 0 1 ∷ into 1 1 ∷ from 1 2 ∷ into 2 2 ∷ from 2 3 ∷ from 3 0 ∷ into 3 3
+    ∷ into 4 4 ∷ from 4 5 ∷ into 5 5 ∷ from 5 6 ∷ into 6 6 ∷ from 6 7 ∷ from 7 4 ∷ into 7 7 ∷ []
 
 -- the transitions of signals with these numbers: r1+ a1+ r1- a1- r2+ a2+ r2- a2-
 abbrev transitions : ℕ → ℕ → ℕ → ℕ → List TransName
-transitions r1 r2 a1 a2 = name_of r1 Rise ∷ name_of a1 Rise ∷ name_of r1 Fall ∷ name_of a1 Fall ∷ name_of r2 Rise ∷ name_of a2 Rise ∷ name_of r2 Fall ∷ name_of a2 Fall ∷ []
+transitions r1 r2 a1 a2 = named r1 Rise ∷ named a1 Rise ∷ named r1 Fall ∷ named a1 Fall ∷ named r2 Rise ∷ named a2 Rise ∷ named r2 Fall ∷ named a2 Fall ∷ []
 
 abbrev handshakes : NetLists
 handshakes = record {

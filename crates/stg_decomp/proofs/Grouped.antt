@@ -1,11 +1,9 @@
 -- The plain groups share out the signals that a specification drives.
-use Rattle.std.proofs.Common.{◌≡◌, ◌==◌, ℕ, zero, suc, ◌<◌, ◌≤◌, List, [], length, get_or, Contains, slice_index, true, refl, sym, ◌∙◌, ap, subst, inl, inr, arith, eq-eqb}
-use Rattle.std.specs.List.Sorted.{IsStrictlyIncreasing}
-use Rattle.std.proofs.lemmas.Bool.{cases_order, eqb-true}
+use Rattle.std.proofs.Common.{◌≡◌, ℕ, zero, suc, ◌<◌, ◌≤◌, List, [], length, get_or, Contains, true, refl, sym, ◌∙◌, subst, inl, inr, arith}
+use Rattle.std.proofs.lemmas.Bool.{cases_order}
 use Rattle.std.proofs.lemmas.List.{get_or_default}
-use Rattle.std.proofs.lemmas.List.Folds.{list_any_at, Any-from_list_any}
-use Rattle.std.proofs.lemmas.List.Kept.{AllPairs-from_increasing}
 use Rattle.stg_net.specs.Component.{is_one_of}
+use Rattle.stg_net.proofs.Members.{one_of-contained, contained-one_of, first_least}
 use Rattle.stg_net.specs.Net.{NetLists}
 use Rattle.stg_laws.specs.Groups.{least_own, AreJoined}
 use Rattle.stg_laws.specs.Stgs.{is_driven}
@@ -13,29 +11,6 @@ use Rattle.stg_laws.proofs.Declaring.{Declares}
 use Rattle.stg_partition.specs.declared.group.Group.{Group}
 use Rattle.stg_partition.specs.PlainGroups.{ArePlainGroups}
 use Rattle.stg_partition.proofs.Conflicts.{joined_on, joined_back, driven_there}
-
--- a test finds what a list contains
-pub one_of-contained : (xs : List ℕ) (k : ℕ) → Contains xs k → is_one_of xs k ≡ true
-one_of-contained xs k c = list_any_at (λ o. o == k) xs c.0 k c.1 (eq-eqb (get_or xs c.0 k) k c.2)
-
--- and nothing else
-pub contained-one_of : (xs : List ℕ) (k : ℕ) → is_one_of xs k ≡ true → Contains xs k
-contained-one_of xs k is =
-    let a = Any-from_list_any (λ o. o == k) xs is in
-    (a.0, a.2, get_or_default xs a.0 k a.1 a.2 ∙ a.3 ∙ eqb-true a.1 k a.4)
-
--- the first of ascending numbers is the least
-first_least : (xs : List ℕ) (k : ℕ) → IsStrictlyIncreasing xs → Contains xs k → slice_index xs 0 ≤ k
-first_least xs k increases c =
-    let apart = AllPairs-from_increasing xs increases in
-    let here : get_or xs c.0 0 ≡ k = get_or_default xs c.0 0 k c.1 ∙ c.2 in
-    elim (cases_order 0 c.0) [
-      | inl first ↦ omega (arith, ap (λ i. get_or xs i 0) first, here)
-      | inr rest ↦ elim rest [
-        | inl later ↦ omega (arith, apart 0 c.0 0 later c.1, here)
-        | inr never ↦ absurd (omega arith)
-      ]
-    ]
 
 abbrev pub no_group : Group
 no_group = record { own = []; known = [] }

@@ -1,4 +1,3 @@
-pub mod Numbers
 pub mod Examples
 pub mod Meaning
 pub mod Grouped

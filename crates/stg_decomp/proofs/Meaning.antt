@@ -1,15 +1,14 @@
 -- The parts of plain groups are faithful components, and a correct decomposition of the specification where it is deterministic.
-use Rattle.std.proofs.Common.{◌≡◌, ◌≢◌, ◌==◌, ℕ, ◌<◌, ◌≤◌, zero-add, List, [], map, length, get_or, All, true, cond, sym, ◌∙◌, ap, subst, eq-eqb, arith}
+use Rattle.std.proofs.Common.{◌≡◌, ◌≢◌, ℕ, ◌<◌, ◌≤◌, List, [], map, length, get_or, All, true, cond, sym, ◌∙◌, ap, subst, arith}
 use Rattle.std.specs.List.{range_with_len}
 use Rattle.std.proofs.lemmas.Bool.{lt-ltb}
 use Rattle.std.proofs.lemmas.List.{length-map, get_or-map as get_or-map_in}
 use Rattle.std.proofs.lemmas.List.Elements.{All-map}
-use Rattle.std.proofs.lemmas.List.Folds.{list_any_at}
-use Rattle.std.proofs.lemmas.List.FromFn.{length-range_with_len, get_or-range_with_len}
 use Rattle.stg_net.specs.Component.{is_one_of, component}
 use Rattle.stg_net.specs.Initial.{graph_of}
 use Rattle.stg_net.specs.Net.{NetLists, IsNet}
 use Rattle.stg_net.specs.Ordered.{ordered}
+use Rattle.stg_net.proofs.Members.{one_of-contained, Contains-range}
 use Rattle.stg_net.proofs.Moved.{ordered-IsNet}
 use Rattle.stg_net.proofs.Shown.{component-IsNet}
 use Rattle.stg_laws.specs.Deterministic.{IsDeterministic}
@@ -55,10 +54,7 @@ module _ (n : NetLists) (net : IsNet n) (groups : List Group) (plain : ArePlainG
 
   all_known : (k : ℕ) → k < length n.signals → is_one_of known k ≡ true
   unfolding known
-  all_known k below =
-      let there : k < length (range_with_len 0 (length n.signals)) = omega (arith, below, length-range_with_len 0 (length n.signals)) in
-      let same : get_or (range_with_len 0 (length n.signals)) k 0 ≡ k = get_or-range_with_len 0 (length n.signals) k 0 below ∙ zero-add k in
-      list_any_at (λ o. o == k) (range_with_len 0 (length n.signals)) k 0 there (eq-eqb (get_or (range_with_len 0 (length n.signals)) k 0) k same)
+  all_known k below = one_of-contained known k (Contains-range (length n.signals) k below)
 
   shows_here : (i : ℕ) → i < length components → ShowsGroup n (own_at groups i) known (shared (length groups) (own_at groups i)) (stg_at components i)
   unfolding stg_here

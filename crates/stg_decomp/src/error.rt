@@ -8,7 +8,9 @@ use stg_net::NoMemory;
 /// Why a specification isn't decomposed: it has a structural auto-conflict, or memory ran out.
 #[derive(Clone, Copy, Debug, PartialEq, Eq)]
 pub enum DecompError {
+    /// The least structural auto-conflict.
     Clash(Clash),
+    /// Memory has run out.
     NoMemory,
 }
 

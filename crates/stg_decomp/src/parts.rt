@@ -1,7 +1,6 @@
 //! One part for each plain group.
 
-ghost use Rattle.std.specs.Prelude.{◌≡◌, ◌<◌, ◌≤◌, ◌++◌, [], ◌∷◌, ◌↔◌, None, length, map, All, IfOk, IfSome, OnOk};
-ghost use Rattle.std.specs.List.{range_with_len};
+ghost use Rattle.std.specs.Prelude.{◌≡◌, ◌<◌, ◌≤◌, ◌++◌, [], ◌∷◌, ◌↔◌, None, length, All, IfOk, IfSome, OnOk};
 ghost use Rattle.stg_net.specs.Net.{IsWithin};
 ghost use Rattle.stg_net.specs.Names.{IsWellNamed};
 ghost use Rattle.stg_net.specs.Initial.{graph_of};
@@ -16,19 +15,8 @@ ghost use Rattle.stg_decomp.specs.Parts.{AreParts, part_of, nets_of, parts_of};
 use crate::{Answer, DecompError, Part};
 use std::alloc::Global;
 use stg_conflict::no_auto_conflict;
-use stg_net::{Limits, Net, NoMemory, Nums, Seq, Spec, ordered};
+use stg_net::{Limits, Net, NoMemory, Seq, Spec, numbers_below, ordered};
 use stg_partition::{Group, plain_groups};
-
-// The numbers below a number, in ascending order.
-fn all_below(alloc: Global, count: u32) -> Result<Nums, NoMemory>
-    ensures { IfOk result (λ all. all ≡ range_with_len 0 count) }
-{
-    let mut all = Seq::new(alloc);
-    for k in 0..count {
-        all.push(k)?;
-    }
-    Ok(all)
-}
 
 fn make_part(alloc: Global, net: &Net, group: &Group, many: usize) -> Result<Part, NoMemory>
     requires within { IsWithin Limits.PART net.now }
@@ -37,7 +25,7 @@ fn make_part(alloc: Global, net: &Net, group: &Group, many: usize) -> Result<Par
     ensures writable { IfOk result (λ part. IsWritable part.net) }
 {
     let own = Seq::from_slice(alloc, group.own.as_slice())?;
-    let known = all_below(alloc, net.signals().len() as u32)?;
+    let known = numbers_below(alloc, net.signals().len() as u32)?;
     let shared = if many > 1 { own.as_slice() } else { &[] };
     let shown = net.component(alloc, own.as_slice(), shared)?;
     let net = ordered(alloc, &shown)?;
