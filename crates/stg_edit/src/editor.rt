@@ -41,6 +41,7 @@ pub struct Mark {
 /// how many edits were undone, and the signals of the net.
 #[derive(Drop)]
 pub struct Editor {
+    alloc: Global,
     arena: Arena,
     signals: Seq<Signal>,
     names: Seq<TransName>,
@@ -78,6 +79,7 @@ impl Editor {
         let arena = build(alloc, net)?;
         arena.sound();
         Ok(Editor {
+            alloc,
             arena,
             signals: copy_signals(alloc, net.signals())?,
             names: Seq::from_slice(alloc, net.trans())?,
@@ -345,12 +347,13 @@ impl Editor {
 
     /// Makes the net of the draft: the known signals, where the own ones alone keep their kinds and
     /// the others are inputs, and the live transitions and places.
-    pub fn net(&self, alloc: Global, own: &Nums) -> Result<Net, NoMemory>
+    pub fn net(&self, own: &Nums) -> Result<Net, NoMemory>
         requires { (t : ℕ) → IsDummy self.now.now t → ⊥ }
         ensures value { IfOk result (λ n. IsNetOf self.now own.now n) }
         ensures arcs { IfOk result (λ n. length n.arcs ≡ count_arcs self.now.now) }
     {
         self.sound();
+        let alloc = self.alloc;
         let kept = list_signals(alloc, self)?;
         let places = list_places(alloc, self)?;
         let trans = list_trans(alloc, self)?;
