@@ -6,7 +6,7 @@ use Rattle.std.proofs.lemmas.List.{get_or_past}
 use Rattle.std.proofs.lemmas.List.FromFn.{length-map-range_with_len, get_or-map-range_with_len}
 use Rattle.stg_net.specs.Graph.{place_at, full_name_at}
 use Rattle.stg_net.specs.Contraction.{without_place, without_trans, without_arcs_of}
-use Rattle.stg_edit.specs.Table.{Table, row, place_of, places_of}
+use Rattle.stg_edit.specs.Table.{Table, place_of, places_of}
 use Rattle.stg_edit.proofs.Tables.{same_map, map_but}
 use Rattle.stg_edit.proofs.Lists.{map-after}
 use Rattle.stg_edit.specs.declared.arena.Gone.{Gone}
@@ -15,6 +15,7 @@ use Rattle.stg_edit.specs.Drafting.{weight, weight_at, table_at, Base, trans_of,
 use Rattle.stg_edit.specs.View.{spare_of}
 use Rattle.stg_edit.proofs.Marks.{both}
 use Rattle.stg_edit.proofs.Pigeons.{at_most_below}
+use Rattle.stg_net.specs.Initial.{row}
 
 -- places made of tables that agree
 pub same_place : (n : ℕ) (x y : Table) (p : ℕ) → x.is_live p ≡ y.is_live p → x.tokens p ≡ y.tokens p → ((t : ℕ) → x.take_weight t p ≡ y.take_weight t p) → ((t : ℕ) → x.give_weight t p ≡ y.give_weight t p) → place_of n x p ≡ place_of n y p

@@ -271,18 +271,20 @@ row_goes_on n p at next l l' a row here low put q =
     }
 
 -- the last place may get the next arc of the net
-pub may_put : (n : NetLists) (p at : ℕ) (l : Layout) → IsNet n → IsInRow n p at l → at < length n.arcs → (net_arc_at n.arcs at).place ≡ p → IsArcAllowed l (net_arc_at n.arcs at).trans
-may_put n p at l net row low here =
+pub may_put : (n : NetLists) (xs : List NetArc) (p at : ℕ) (l : Layout) → IsNet n → xs ≡ n.arcs → IsInRow n p at l → at < length n.arcs → (net_arc_at n.arcs at).place ≡ p → IsArcAllowed l (net_arc_at xs at).trans
+may_put n xs p at l net arcs row low here =
     let f = row.filled in
     let last : p ≡ length l.places - 1 = omega (arith, f.places) in
-    record {
+    let allowed : IsArcAllowed l (net_arc_at n.arcs at).trans = record {
       place = omega (arith, f.places);
       live_place = f.live true (length l.places - 1);
       trans = omega (arith, f.trans, (net.arcs at (record { place = 0; trans = 0; into = false; weight = 0 }) low).trans_there);
       live_trans = f.live false (net_arc_at n.arcs at).trans;
       after = let P : ℕ → Type 0 = λ p. IsPastAll l p (net_arc_at n.arcs at).trans in subst P last (row.past low here);
       room = omega (arith, f.room, f.within);
-    }
+    } in
+    let P : List NetArc → Type 0 = λ ys. IsArcAllowed l (net_arc_at ys at).trans in
+    subst P (sym arcs) allowed
 
 -- the arena of all of the net shows the initial component
 abbrev no_name : TransName

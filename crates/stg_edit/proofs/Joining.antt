@@ -3,9 +3,9 @@ use Rattle.std.proofs.Common.{◌≡◌, ◌≢◌, ◌<◌, ◌≤◌, ◌+◌,
 use Rattle.std.proofs.lemmas.Bool.{cases_eq, cases_Bool, cases_order, cond_both, ne_eqb, eqb-true}
 use Rattle.stg_edit.specs.Times.{IsNextAt}
 use Rattle.stg_edit.specs.Layout.{Layout, none, arc_at, side, died, times_of, IsLaid, IsTimed, IsPastAll, IsPushedArc}
-use Rattle.stg_edit.specs.Walked.{weight_of}
+use Rattle.stg_edit.specs.Walked.{weight_of, IsWalking}
 use Rattle.stg_edit.specs.Drafting.{weight}
-use Rattle.stg_edit.specs.Joined.{far, IsStep, IsClear, IsStepped, IsJoining, IsPut}
+use Rattle.stg_edit.specs.Joined.{far, IsStep, IsPut}
 use Rattle.stg_edit.proofs.Rings.{stop_other}
 use Rattle.stg_edit.proofs.Marks.{depth_now}
 use Rattle.stg_edit.proofs.Walking.{walk_on}
@@ -13,6 +13,25 @@ use Rattle.stg_edit.proofs.Weights.{ring_here, ring_gap, weight_none, weight_pus
 use Rattle.stg_edit.proofs.Growing.{less_on}
 use Rattle.stg_edit.proofs.Pushing.{more_of, push_old, push_new, push_length}
 use Rattle.stg_edit.specs.declared.arena.Arc.{Arc}
+
+-- between u and the transition where the walk stands there is nothing
+pub record IsClear (l : Layout) (p u x : ℕ) : Type 0 where
+  pub walking : IsWalking l true p x
+  pub ahead : u ≤ far l x
+  pub clear : (take : Bool) (v : ℕ) → v < none → died l false v ≡ none → u ≤ v → v < far l x → weight l.arcs take p v ≡ 0
+
+pub record IsStepped (l : Layout) (p u x y : ℕ) : Type 0 where
+  pub walking : IsWalking l true p y
+  pub ahead : u < far l y
+  pub clear : (take : Bool) (v : ℕ) → v < none → died l false v ≡ none → u < v → v < far l y → weight l.arcs take p v ≡ 0
+  pub here : (take : Bool) → died l false u ≡ none → weight l.arcs take p u ≡ cond (eqb (far l x) u) (weight_of take (arc_at l.arcs x)) 0
+
+-- all transitions below u are done: the new row n has there the sums of the rows p and q, but nothing at t
+pub record IsJoining (l : Layout) (p q t n u x y : ℕ) : Type 0 where
+  pub first : IsClear l p u x
+  pub second : IsClear l q u y
+  pub done : (take : Bool) (v : ℕ) → v < none → died l false v ≡ none → v < u → weight l.arcs take n v ≡ cond (eqb v t) 0 (weight l.arcs take p v + weight l.arcs take q v)
+  pub past : IsPastAll l n u
 
 pub row_step : (l : Layout) (p u x y : ℕ) → IsLaid l → IsTimed l → p < none → died l true p ≡ none → u < none → IsClear l p u x → IsStep l u x y → IsStepped l p u x y
 row_step l p u x y laid t small live bound c step = elim (cases_eq (far l x) u) [

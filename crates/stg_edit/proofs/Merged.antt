@@ -5,14 +5,28 @@ use Rattle.stg_edit.specs.Times.{IsNextAt}
 use Rattle.stg_edit.specs.Layout.{Layout, none, arc_at, spot_at, side, died, head_of, times_of, IsLaid, IsTimed, IsPastAll}
 use Rattle.stg_edit.specs.Walked.{weight_of, IsWalking}
 use Rattle.stg_edit.specs.Drafting.{weight, weight_at}
-use Rattle.stg_edit.specs.Joined.{far, IsStep, IsClear, IsJoining, IsPut, IsPutAllowed, IsKept, CanJoin, IsOnTheWay, joined_weight, joined_arcs}
+use Rattle.stg_edit.specs.Joined.{far, IsStep, IsPut, IsPutAllowed, IsKept, CanJoin, joined_weight, joined_arcs}
 use Rattle.stg_edit.specs.Grown.{IsGrown}
 use Rattle.stg_edit.proofs.Marks.{depth_now}
 use Rattle.stg_edit.proofs.Walking.{walk_on}
 use Rattle.stg_edit.proofs.Weights.{ring_here, ring_gap}
 use Rattle.stg_edit.proofs.Pushed.{head_on}
 use Rattle.stg_edit.proofs.Grown.{grown_refl, grown_trans, arcs_up, arcs_more}
-use Rattle.stg_edit.proofs.Joining.{row_step, past_none, join_step}
+use Rattle.stg_edit.proofs.Joining.{row_step, past_none, join_step, IsClear, IsJoining}
+
+-- all transitions below u are done, the walks stand at x and y
+pub record IsOnTheWay (l l' : Layout) (p q t n u x y : ℕ) : Type 0 where
+  pub joining : IsJoining l' p q t n u x y
+  pub least : u ≡ min (far l' x) (far l' y)
+  pub places : l'.places ≡ l.places
+  pub trans : l'.trans ≡ l.trans
+  pub log : l'.log ≡ l.log
+  pub log_room : l'.log_room ≡ l.log_room
+  pub cell_room : l'.cell_room ≡ l.cell_room
+  pub place_room : l'.place_room ≡ l.place_room
+  pub others : (take : Bool) (r v : ℕ) → r ≢ n → weight l'.arcs take r v ≡ weight l.arcs take r v
+  pub grown : IsGrown t n l l'
+  pub room : length l'.arcs ≤ length l.arcs + joined_arcs l t p q (min u (length l.trans))
 
 -- the walk along a row begins at its head
 pub at_head : (l : Layout) (p : ℕ) → IsLaid l → IsTimed l → p < length l.places → died l true p ≡ none → IsWalking l true p (head_of l true p)

@@ -9,7 +9,7 @@ use Rattle.stg_edit.specs.Drafting.{weight}
 use Rattle.stg_edit.specs.Walks.{weighted_from}
 use Rattle.stg_edit.specs.Along.{weight_along}
 use Rattle.stg_edit.specs.Grown.{IsGrown}
-use Rattle.stg_edit.specs.Made.{CanMake, IsMade, after_at, before_at, pairs_with, pairs_of, pair_of, pairs_at, IsJoiningWith, IsJoiningAll}
+use Rattle.stg_edit.specs.Made.{CanMake, IsMade, after_at, before_at, pairs_with, pairs_of, pair_of, pairs_at}
 use Rattle.stg_edit.proofs.Rings.{stop_other}
 use Rattle.stg_edit.proofs.Marks.{depth_now}
 use Rattle.stg_edit.proofs.Steps.{crossed_of}
@@ -20,6 +20,20 @@ use Rattle.stg_edit.proofs.Along.{weighted_same, weighted_skip, walk_starts}
 use Rattle.stg_edit.proofs.Later.{later_weight, later_old}
 use Rattle.stg_edit.proofs.Grown.{left_grown, walking_grown}
 use Rattle.stg_edit.proofs.Made.{made_nil, made_append, can_first, can_rest}
+
+-- while p is joined with the places after t: the walk is at y
+pub record IsJoiningWith (t p : ℕ) (l l' : Layout) (y : ℕ) : Type 0 where
+  pub done : List (ℕ × ℕ)
+  pub made : IsMade t done l l'
+  pub rest : done ++ pairs_with p (left l' false t false y) ≡ pairs_with p (after_at l t)
+  pub walking : IsWalking l' false t y
+
+-- while the places before t are joined with those after it: the walk is at x
+pub record IsJoiningAll (t : ℕ) (l l' : Layout) (x : ℕ) : Type 0 where
+  pub done : List (ℕ × ℕ)
+  pub made : IsMade t done l l'
+  pub rest : done ++ pairs_of l' t (left l' false t true x) ≡ pairs_of l t (before_at l t)
+  pub walking : IsWalking l' false t x
 
 -- the walk round t begins at its head
 pub at_trans : (l : Layout) (t : ℕ) → IsLaid l → IsTimed l → t < length l.trans → died l false t ≡ none → IsWalking l false t t

@@ -5,10 +5,10 @@ use Rattle.std.proofs.lemmas.List.{get_or_append_left, get_or-append_right, get_
 use Rattle.stg_edit.specs.declared.arena.Arc.{Arc}
 use Rattle.stg_edit.specs.declared.arena.Spot.{Spot}
 use Rattle.stg_edit.specs.Ring.{HasHeads}
-use Rattle.stg_edit.specs.Times.{IsMore}
 use Rattle.stg_edit.specs.Layout.{Layout, none, no_arc, no_spot, arc_at, spot_at, end_of, side, died, many, head_of, head_arc, gone_at, times_of, IsHead, IsAfter, IsLaid, IsTimed, IsPushed, IsPushedArc, IsPushedPlace}
 use Rattle.stg_edit.proofs.Marks.{depth_now}
 use Rattle.stg_edit.proofs.Steps.{crossed_of}
+use Rattle.stg_edit.proofs.Growing.{IsMore}
 
 pub push_length : (a : Arc) (l l' : Layout) → IsPushed a l l' → length l'.arcs ≡ length l.arcs + 1
 push_length a l l' p = ap length p.arcs ∙ length-append l.arcs (a ∷ []) ∙ omega arith

@@ -5,7 +5,7 @@ use Rattle.stg_edit.specs.Times.{IsNextAt}
 use Rattle.stg_edit.specs.Layout.{Layout, none, arc_at, end_of, died, side, times_of, gone_at, IsLaid, IsTimed}
 use Rattle.stg_edit.specs.Walked.{IsWalking}
 use Rattle.stg_edit.specs.Drafting.{weight}
-use Rattle.stg_edit.specs.Hidden.{weights_at, touch, IsHiddenAt, IsFewer, IsHidden, IsHidingRound}
+use Rattle.stg_edit.specs.Hidden.{weights_at, touch, IsHiddenAt, IsFewer, IsHidden}
 use Rattle.stg_edit.proofs.Rings.{stop_other}
 use Rattle.stg_edit.proofs.Marks.{depth_now, log_length, gone_old, gone_new}
 use Rattle.stg_edit.proofs.Weights.{ring_here, ring_gap}
@@ -13,6 +13,11 @@ use Rattle.stg_edit.proofs.Walking.{walk_on}
 use Rattle.stg_edit.proofs.Drafted.{log_short}
 use Rattle.stg_edit.proofs.Later.{later_refl, later_trans, later_gone}
 use Rattle.stg_edit.proofs.Pairing.{at_trans, is_arc}
+
+-- the walk round t is at x
+pub record IsHidingRound (t : ℕ) (l l' : Layout) (x : ℕ) : Type 0 where
+  pub hidden : IsHidden t (arc_at l.arcs x).place l l'
+  pub walking : IsWalking l' false t x
 
 -- between two cells of the walk nothing is touched
 untouched_between : (l : Layout) (t x z p : ℕ) → IsLaid l → IsTimed l → t < length l.trans → died l false t ≡ none → IsWalking l false t x → IsNextAt (side l.arcs false) (side l.arcs true) (times_of l) (length l.log) x z → ((arc_at l.arcs x).place ≡ none) ⊎ ((arc_at l.arcs x).place < p) → p < (arc_at l.arcs z).place → p < none → died l true p ≡ none → touch l t p ≡ 0

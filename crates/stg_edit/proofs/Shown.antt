@@ -11,9 +11,10 @@ use Rattle.std.proofs.lemmas.Slice.Eq.{bytes_eq-Decides}
 use Rattle.stg_net.specs.declared.signal.Signal.{Signal}
 use Rattle.stg_net.specs.Net.{signal_at}
 use Rattle.stg_net.specs.Graph.{Graph, Place, FullName, IsPlace, IsTrans, IsDummy, place_at, full_name_at, tokens_at, tokens_in, takes, gives, taken_by, given_by, is_among, has_signal_of}
-use Rattle.stg_edit.specs.Table.{row, place_of, places_of}
+use Rattle.stg_edit.specs.Table.{place_of, places_of}
 use Rattle.stg_edit.specs.Layout.{Layout, many, none, died, spot_at, IsTimed}
 use Rattle.stg_edit.specs.Drafting.{Base, weight, weight_at, table_at, trans_of, now_of}
+use Rattle.stg_net.specs.Initial.{row}
 
 -- what doesn't bear a mark of removal is live at the moment
 pub alive : (l : Layout) (b : Bool) (k : ℕ) → IsTimed l → died l b k ≡ none → leb (length l.log) (died l b k) ≡ true
@@ -49,16 +50,6 @@ is_trans_now base l u t long live = rw (name_now base l u t live.0 live.1) (some
 
 pub tokens_now : (base : Base) (l : Layout) (p : ℕ) → IsTimed l → p < length l.places → died l true p ≡ none → tokens_at (now_of base l) p ≡ (spot_at l.places p).tokens
 tokens_now base l p t range live = ap tokens_in (place_now base l p t range live)
-
-pub takes_now : (base : Base) (l : Layout) (t p : ℕ) → IsTimed l → p < length l.places → died l true p ≡ none → t < length l.trans → takes (now_of base l) t p ≡ weight_at l (length l.log) true t p
-takes_now base l t p timed range live inside =
-    ap (taken_by t) (place_now base l p timed range live)
-    ∙ get_or-map-range_with_len (λ t. weight_at l (length l.log) true t p) 0 (length l.trans) t t 0 inside (zero-add t)
-
-pub gives_now : (base : Base) (l : Layout) (t p : ℕ) → IsTimed l → p < length l.places → died l true p ≡ none → t < length l.trans → gives (now_of base l) t p ≡ weight_at l (length l.log) false t p
-gives_now base l t p timed range live inside =
-    ap (given_by t) (place_now base l p timed range live)
-    ∙ get_or-map-range_with_len (λ t. weight_at l (length l.log) false t p) 0 (length l.trans) t t 0 inside (zero-add t)
 
 -- of signals with different names, equal names are one number
 same_signal : (signals : List Signal) → AllPairs (λ (s t : Signal). s.name ≢ t.name) signals → (s t : ℕ) → s < length signals → t < length signals → bytes_eq (signal_at signals s).name (signal_at signals t).name ≡ eqb s t

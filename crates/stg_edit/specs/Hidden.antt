@@ -32,8 +32,3 @@ pub record IsHidden (t end : ℕ) (l l' : Layout) : Type 0 where
   pub ahead : (p : ℕ) → end ≤ p → died l' true p ≡ died l true p
   pub bare : (p : ℕ) → touch l t p ≡ 0 → died l' true p ≡ died l true p
   pub dead : (p : ℕ) → died l true p ≢ none → died l' true p ≡ died l true p
-
--- the walk round t is at x
-pub record IsHidingRound (t : ℕ) (l l' : Layout) (x : ℕ) : Type 0 where
-  pub hidden : IsHidden t (arc_at l.arcs x).place l l'
-  pub walking : IsWalking l' false t x

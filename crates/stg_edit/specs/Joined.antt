@@ -16,25 +16,6 @@ pub record IsStep (l : Layout) (u x y : ℕ) : Type 0 where
   pub moved : far l x ≡ u → IsNextAt (side l.arcs true) (side l.arcs false) (times_of l) (length l.log) x y
   pub stayed : far l x ≢ u → y ≡ x
 
--- between u and the transition where the walk stands there is nothing
-pub record IsClear (l : Layout) (p u x : ℕ) : Type 0 where
-  pub walking : IsWalking l true p x
-  pub ahead : u ≤ far l x
-  pub clear : (take : Bool) (v : ℕ) → v < none → died l false v ≡ none → u ≤ v → v < far l x → weight l.arcs take p v ≡ 0
-
-pub record IsStepped (l : Layout) (p u x y : ℕ) : Type 0 where
-  pub walking : IsWalking l true p y
-  pub ahead : u < far l y
-  pub clear : (take : Bool) (v : ℕ) → v < none → died l false v ≡ none → u < v → v < far l y → weight l.arcs take p v ≡ 0
-  pub here : (take : Bool) → died l false u ≡ none → weight l.arcs take p u ≡ cond (eqb (far l x) u) (weight_of take (arc_at l.arcs x)) 0
-
--- all transitions below u are done: the new row n has there the sums of the rows p and q, but nothing at t
-pub record IsJoining (l : Layout) (p q t n u x y : ℕ) : Type 0 where
-  pub first : IsClear l p u x
-  pub second : IsClear l q u y
-  pub done : (take : Bool) (v : ℕ) → v < none → died l false v ≡ none → v < u → weight l.arcs take n v ≡ cond (eqb v t) 0 (weight l.arcs take p v + weight l.arcs take q v)
-  pub past : IsPastAll l n u
-
 -- from l to l' the row n gets the weights w at u, or nothing where u is t
 pub record IsPut (l l' : Layout) (t n u : ℕ) (w : Bool → ℕ) : Type 0 where
   pub others : (take : Bool) (r v : ℕ) → r ≢ n → weight l'.arcs take r v ≡ weight l.arcs take r v
@@ -104,17 +85,3 @@ pub record IsJoined (l l' : Layout) (p q t n : ℕ) : Type 0 where
   pub sums : (take : Bool) (v : ℕ) → v < none → died l false v ≡ none → weight l'.arcs take n v ≡ cond (v == t) 0 (weight l.arcs take p v + weight l.arcs take q v)
   pub grown : IsGrown t n l l'
   pub few : length l'.arcs ≤ length l.arcs + joined_arcs l t p q (length l.trans)
-
--- all transitions below u are done, the walks stand at x and y
-pub record IsOnTheWay (l l' : Layout) (p q t n u x y : ℕ) : Type 0 where
-  pub joining : IsJoining l' p q t n u x y
-  pub least : u ≡ min (far l' x) (far l' y)
-  pub places : l'.places ≡ l.places
-  pub trans : l'.trans ≡ l.trans
-  pub log : l'.log ≡ l.log
-  pub log_room : l'.log_room ≡ l.log_room
-  pub cell_room : l'.cell_room ≡ l.cell_room
-  pub place_room : l'.place_room ≡ l.place_room
-  pub others : (take : Bool) (r v : ℕ) → r ≢ n → weight l'.arcs take r v ≡ weight l.arcs take r v
-  pub grown : IsGrown t n l l'
-  pub room : length l'.arcs ≤ length l.arcs + joined_arcs l t p q (min u (length l.trans))

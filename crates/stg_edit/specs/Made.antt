@@ -65,17 +65,3 @@ pair_of l p y = cond (nat_lt 0 (weight_of false (arc_at l.arcs y))) ((p, (arc_at
 -- the place at the cell x, where t takes from it, with each place after t
 abbrev pub pairs_at : Layout → ℕ → ℕ → List (ℕ × ℕ)
 pairs_at l t x = cond (nat_lt 0 (weight_of true (arc_at l.arcs x))) (pairs_with (arc_at l.arcs x).place (after_at l t)) []
-
--- while p is joined with the places after t: the walk is at y
-pub record IsJoiningWith (t p : ℕ) (l l' : Layout) (y : ℕ) : Type 0 where
-  pub done : List (ℕ × ℕ)
-  pub made : IsMade t done l l'
-  pub rest : done ++ pairs_with p (left l' false t false y) ≡ pairs_with p (after_at l t)
-  pub walking : IsWalking l' false t y
-
--- while the places before t are joined with those after it: the walk is at x
-pub record IsJoiningAll (t : ℕ) (l l' : Layout) (x : ℕ) : Type 0 where
-  pub done : List (ℕ × ℕ)
-  pub made : IsMade t done l l'
-  pub rest : done ++ pairs_of l' t (left l' false t true x) ≡ pairs_of l t (before_at l t)
-  pub walking : IsWalking l' false t x

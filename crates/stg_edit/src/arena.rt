@@ -5,7 +5,8 @@
 ghost use Rattle.std.specs.Prelude.{◌≡◌, ◌<◌, ◌≤◌, ◌+◌, ◌-◌, ℕ, true, false, not, length, map, IsTrue, IfOk, OnOk, OnErr, vec_capacity, ◌↔◌};
 ghost use Rattle.std.specs.List.{range_with_len};
 ghost use Rattle.stg_edit.specs.Bare.{bare, trans_head, lone_link};
-ghost use Rattle.stg_edit.specs.Layout.{died, spot_at, none, many, gone_at, IsGone, IsPushedArc, IsPushedPlace, IsPastAll, IsTimed, IsLaid, EndsInArc, end_of, arc_at, side, times_of, head_of};
+ghost use Rattle.stg_edit.specs.Layout.{died, spot_at, none, many, gone_at, IsGone, IsPushedArc, IsPushedPlace, IsTimed, IsLaid, EndsInArc, end_of, arc_at, side, times_of, head_of};
+ghost use Rattle.stg_edit.specs.Joined.{IsArcAllowed};
 ghost use Rattle.stg_edit.specs.Later.{HasAllCells, IsBack};
 ghost use Rattle.stg_edit.specs.Popping.{EndsInPlace, IsHeadPushed, IsOneMore, CanPop, IsPopping};
 ghost use Rattle.stg_edit.specs.declared.arena.Arc.{Arc as ThisArc};
@@ -204,12 +205,7 @@ impl Arena {
 
     /// A new arc of the last place, behind those that the place has.
     pub fn push_arc(&mut self, trans: u32, take: u32, give: u32)
-        requires place { 0 < length self.old.places }
-        requires live_place { died self.old true (length self.old.places - 1) ≡ none }
-        requires trans { trans < many self.old false }
-        requires live_trans { died self.old false trans ≡ none }
-        requires after { IsPastAll self.old (length self.old.places - 1) trans }
-        requires room { length self.old.arcs < self.old.cell_room }
+        requires { IsArcAllowed self.old trans }
         ensures { IsPushedArc (record { place = length self.old.places - 1; trans = trans; take = take; give = give }) self.old self.new }
     {
         let place = (self.places.len() - 1) as u32;

@@ -5,7 +5,16 @@ use Rattle.stg_edit.specs.Layout.{Layout}
 use Rattle.stg_edit.specs.Filling.{net_arc_at, IsInRow}
 use Rattle.stg_edit.proofs.build.push_arcs.Goals as goal
 use Rattle.stg_edit.proofs.build.push_arcs.Goals.{then-arc, else-arc}
-use Rattle.stg_edit.proofs.Filling.{row_lone, row_pair, lone_arc}
+use Rattle.stg_edit.proofs.Filling.{row_lone, row_pair, lone_arc, may_put}
+
+pub push_arc-requires : goal.push_arc-requires
+push_arc-requires c = may_put c.args.net.now c.arcs-arcs.result.now c.args.place c.args.at c.args.arena.now c.arcs-arcs.ensures.net c.arcs-arcs.ensures.arcs c.requires.row c.requires.there c.requires.here
+
+pub push_arc-requires-then-arc : goal.push_arc-requires-then-arc
+push_arc-requires-then-arc c = may_put c.args.net.now c.arcs-arcs.result.now c.args.place c.args.at c.args.arena.now c.arcs-arcs.ensures.net c.arcs-arcs.ensures.arcs c.requires.row c.requires.there c.requires.here
+
+pub push_arc-requires-else-arc : goal.push_arc-requires-else-arc
+push_arc-requires-else-arc c = may_put c.args.net.now c.arcs-arcs.result.now c.args.place c.args.at c.args.arena.now c.arcs-arcs.ensures.net c.arcs-arcs.ensures.arcs c.requires.row c.requires.there c.requires.here
 
 pub returns-then-is_pair-clause-row : goal.returns-then-is_pair-clause-row
 returns-then-is_pair-clause-row c =

@@ -1,5 +1,4 @@
-use Rattle.stg_edit.specs.Made.{IsJoiningWith}
-use Rattle.stg_edit.proofs.Pairing.{to_go}
+use Rattle.stg_edit.proofs.Pairing.{to_go, IsJoiningWith}
 use Rattle.stg_edit.proofs.join.join_after.Given as goal
 
 abbrev pub invariant-loop-y : goal.invariant-loop-y

@@ -1,5 +1,4 @@
-use Rattle.stg_edit.specs.Made.{IsJoiningAll}
-use Rattle.stg_edit.proofs.Pairing.{to_go}
+use Rattle.stg_edit.proofs.Pairing.{to_go, IsJoiningAll}
 use Rattle.stg_edit.proofs.join.join_round.Given as goal
 
 abbrev pub invariant-loop-x : goal.invariant-loop-x

@@ -1,5 +1,5 @@
-use Rattle.stg_edit.specs.Hidden.{IsHidingRound}
 use Rattle.stg_edit.proofs.Pairing.{to_go}
+use Rattle.stg_edit.proofs.Rounds.{IsHidingRound}
 use Rattle.stg_edit.proofs.round.hide_round.Given as goal
 
 abbrev pub invariant-loop-x : goal.invariant-loop-x
