@@ -12,6 +12,7 @@ use Rattle.stg_edit.proofs.Lists.{map-after}
 use Rattle.stg_edit.specs.declared.arena.Gone.{Gone}
 use Rattle.stg_edit.specs.Layout.{Layout, none, spot_at, died, many, gone_at, IsTimed, IsGone}
 use Rattle.stg_edit.specs.Drafting.{weight, weight_at, table_at, Base, trans_of, draft_at, now_of}
+use Rattle.stg_edit.specs.Editing.{IsNode, without_node}
 use Rattle.stg_edit.specs.View.{spare_of}
 use Rattle.stg_edit.proofs.Marks.{both}
 use Rattle.stg_edit.proofs.Pigeons.{at_most_below}
@@ -40,7 +41,7 @@ live_later b k l l' c j g t same = elim (cases_lt (died l c j) (length l.log)) [
   | inr high ↦ le-leb (length l.log + 1) (died l' c j) (omega (arith, t.alive c j high, t.room, t.small)) ∙ sym (le-leb (length l.log) (died l c j) high)
 ]
 
-pub draft_without_place : (base : Base) (k : ℕ) (l l' : Layout) (n : ℕ) → IsGone true k l l' → IsTimed l → draft_at base l' (length l.log + 1) n ≡ without_place (draft_at base l (length l.log) n) k
+draft_without_place : (base : Base) (k : ℕ) (l l' : Layout) (n : ℕ) → IsGone true k l l' → IsTimed l → draft_at base l' (length l.log + 1) n ≡ without_place (draft_at base l (length l.log) n) k
 draft_without_place base k l l' n g t =
     let places = map_but (place_of (length l.trans) (table_at l (length l.log))) (place_of (length l'.trans) (table_at l' (length l.log + 1))) n k None
     (λ p r ne. ap (λ m. place_of m (table_at l' (length l.log + 1)) p) (g.as_many false)
@@ -55,7 +56,7 @@ draft_without_place base k l l' n g t =
     weights take u p = ap (λ z. cond z (weight l'.arcs take p u) 0) (live_later true k l l' false u g t (g.far u))
         ∙ ap (λ xs. cond (leb (length l.log) (died l false u)) (weight xs take p u) 0) g.arcs
 
-pub draft_without_trans : (base : Base) (k : ℕ) (l l' : Layout) (n : ℕ) → IsGone false k l l' → IsTimed l → draft_at base l' (length l.log + 1) n ≡ without_trans (draft_at base l (length l.log) n) k
+draft_without_trans : (base : Base) (k : ℕ) (l l' : Layout) (n : ℕ) → IsGone false k l l' → IsTimed l → draft_at base l' (length l.log + 1) n ≡ without_trans (draft_at base l (length l.log) n) k
 draft_without_trans base k l l' n g t =
     let places = same_map (place_of (length l'.trans) (table_at l' (length l.log + 1))) (λ p. without_arcs_of k (place_of (length l.trans) (table_at l (length l.log)) p)) n (λ p r. here p)
     ∙ map-after (λ p. without_arcs_of k (place_of (length l.trans) (table_at l (length l.log)) p)) (without_arcs_of k) (place_of (length l.trans) (table_at l (length l.log))) (λ p. refl) (range_with_len 0 n) in
@@ -101,6 +102,16 @@ live_trans base u l t live = elim (cases_lt u (length l.trans)) [
     ],
   )
 ]
+
+-- a live node of the draft is a live node
+pub live_node : (b : Bool) (base : Base) (k : ℕ) (l : Layout) → IsTimed l → IsNode b (now_of base l) k → (k < many l b) × (died l b k ≡ none)
+live_node true base k l t live = live_place base k l t live
+live_node false base k l t live = live_trans base k l t live
+
+-- the draft after a node went
+pub draft_without : (b : Bool) (base : Base) (k : ℕ) (l l' : Layout) (n : ℕ) → IsGone b k l l' → IsTimed l → draft_at base l' (length l.log + 1) n ≡ without_node b (draft_at base l (length l.log) n) k
+draft_without true base k l l' n g t = draft_without_place base k l l' n g t
+draft_without false base k l l' n g t = draft_without_trans base k l l' n g t
 
 -- no more can have gone than there are, and k hasn't
 pub log_short : (l : Layout) (b : Bool) (k : ℕ) → IsTimed l → k < many l b → died l b k ≡ none → length l.log < many l true + many l false

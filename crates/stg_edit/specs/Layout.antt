@@ -1,5 +1,5 @@
 -- The arena: cells in ascending order, the places and transitions that they join, and the order in which these went.
-use Rattle.std.specs.Prelude.{◌≡◌, ◌≢◌, ◌<◌, ◌≤◌, ◌⊎◌, ◌==◌, ◌-◌, ◌++◌, ◌∷◌, [], ℕ, Bool, true, false, not, min, List, length, slice_index_or}
+use Rattle.std.specs.Prelude.{◌≡◌, ◌≢◌, ◌<◌, ◌≤◌, ◌⊎◌, ◌==◌, ◌-◌, ◌++◌, ◌∷◌, [], ℕ, Bool, true, false, not, min, List, length, set, slice_index_or}
 use Rattle.stg_edit.specs.declared.arena.Arc.{Arc}
 use Rattle.stg_edit.specs.declared.arena.Spot.{Spot}
 use Rattle.stg_edit.specs.declared.arena.Gone.{Gone}
@@ -44,6 +44,16 @@ side arcs b = record { key = λ c. end_of b (arc_at arcs c); head = λ c. end_of
 abbrev pub died : Layout → Bool → ℕ → ℕ
 died l true p = (spot_at l.places p).died
 died l false t = slice_index_or l.trans t none
+
+-- the places, where the node k gets the moment m of its removal
+abbrev pub marked_places : Bool → ℕ → ℕ → List Spot → List Spot
+marked_places true k m places = set places k (record (spot_at places k) { died = m })
+marked_places false k m places = places
+
+-- the same for the transitions
+abbrev pub marked_trans : Bool → ℕ → ℕ → List ℕ → List ℕ
+marked_trans true k m trans = trans
+marked_trans false k m trans = set trans k m
 
 abbrev pub many : Layout → Bool → ℕ
 many l true = length l.places

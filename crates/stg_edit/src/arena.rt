@@ -5,7 +5,7 @@
 ghost use Rattle.std.specs.Prelude.{◌≡◌, ◌<◌, ◌≤◌, ◌+◌, ◌-◌, ℕ, true, false, not, length, map, IsTrue, IfOk, OnOk, OnErr, vec_capacity, ◌↔◌};
 ghost use Rattle.std.specs.List.{range_with_len};
 ghost use Rattle.stg_edit.specs.Bare.{bare, trans_head, lone_link};
-ghost use Rattle.stg_edit.specs.Layout.{died, spot_at, none, many, gone_at, IsGone, IsPushedArc, IsPushedPlace, IsTimed, IsLaid, EndsInArc, end_of, arc_at, side, times_of, head_of};
+ghost use Rattle.stg_edit.specs.Layout.{marked_places, marked_trans, died, spot_at, none, many, gone_at, IsGone, IsPushedArc, IsPushedPlace, IsTimed, IsLaid, EndsInArc, end_of, arc_at, side, times_of, head_of};
 ghost use Rattle.stg_edit.specs.Joined.{IsArcAllowed};
 ghost use Rattle.stg_edit.specs.Later.{HasAllCells, IsBack};
 ghost use Rattle.stg_edit.specs.Popping.{EndsInPlace, IsHeadPushed, IsOneMore, CanPop, IsPopping};
@@ -15,7 +15,7 @@ ghost use Rattle.stg_edit.specs.Room.{HasRoom, IsRoomier};
 ghost use Rattle.stg_edit.specs.Times.{IsNextAt};
 ghost use Rattle.stg_edit.specs.Walked.{IsLive, weight_of};
 
-use crate::links::{Link, hide, pop_link, push_link, show};
+use crate::links::{Link, hide_ring, pop_link, push_link, show_ring};
 use std::alloc::Global;
 use std::marker::Model;
 use stg_net::NoMemory;
@@ -98,66 +98,35 @@ impl Arena {
         })
     }
 
-    /// The place p goes.
-    pub fn hide_place(&mut self, p: u32)
-        requires range { p < many self.old true }
-        requires live { died self.old true p ≡ none }
+    /// The place, or the transition, goes.
+    pub fn hide(&mut self, by_place: bool, node: u32)
+        requires range { node < many self.old by_place }
+        requires live { died self.old by_place node ≡ none }
         requires room { length self.old.log < self.old.log_room }
-        ensures { IsGone true p self.old self.new }
+        ensures { IsGone by_place node self.old self.new }
     {
         let cells = self.arcs.len() as u32;
         let moment = self.log.len() as u32;
-        let spot = &mut self.places[p as usize];
-        let head = spot.head;
-        spot.died = moment;
-        hide(&self.rows, &mut self.cols, head);
+        let head = self.head(by_place, node);
+        mark(&mut self.places, &mut self.trans, by_place, node, moment);
+        hide_ring(&mut self.rows, &mut self.cols, by_place, head);
         self.log.push_reserved(Gone {
-            is_place: true,
-            node: p,
+            is_place: by_place,
+            node,
             cells,
         });
     }
 
-    /// The transition t goes.
-    pub fn hide_trans(&mut self, t: u32)
-        requires range { t < many self.old false }
-        requires live { died self.old false t ≡ none }
-        requires room { length self.old.log < self.old.log_room }
-        ensures { IsGone false t self.old self.new }
-    {
-        let cells = self.arcs.len() as u32;
-        let moment = self.log.len() as u32;
-        self.trans[t as usize] = moment;
-        hide(&self.cols, &mut self.rows, t);
-        self.log.push_reserved(Gone {
-            is_place: false,
-            node: t,
-            cells,
-        });
-    }
-
-    /// The place p, which went last, comes back.
-    fn show_place(&mut self, p: u32)
+    /// The place, or the transition, which went last, comes back.
+    fn show(&mut self, by_place: bool, node: u32)
         requires some { 0 < length self.old.log }
-        requires last { gone_at self.old (length self.old.log - 1) ≡ record { is_place = true; node = p; cells = length self.old.arcs } }
-        ensures { IsGone true p self.new self.old }
+        requires last { gone_at self.old (length self.old.log - 1) ≡ record { is_place = by_place; node = node; cells = length self.old.arcs } }
+        ensures { IsGone by_place node self.new self.old }
     {
+        let head = self.head(by_place, node);
         let _gone = self.log.take_last();
-        let spot = &mut self.places[p as usize];
-        let head = spot.head;
-        spot.died = NONE;
-        show(&self.rows, &mut self.cols, head);
-    }
-
-    /// The transition t, which went last, comes back.
-    fn show_trans(&mut self, t: u32)
-        requires some { 0 < length self.old.log }
-        requires last { gone_at self.old (length self.old.log - 1) ≡ record { is_place = false; node = t; cells = length self.old.arcs } }
-        ensures { IsGone false t self.new self.old }
-    {
-        let _gone = self.log.take_last();
-        self.trans[t as usize] = NONE;
-        show(&self.cols, &mut self.rows, t);
+        mark(&mut self.places, &mut self.trans, by_place, node, NONE);
+        show_ring(&mut self.rows, &mut self.cols, by_place, head);
     }
 
     /// What went last comes back.
@@ -167,11 +136,7 @@ impl Arena {
         ensures { let g = gone_at self.old (length self.old.log - 1) in IsGone g.is_place g.node self.new self.old }
     {
         let gone = self.log[self.log.len() - 1];
-        if gone.is_place {
-            self.show_place(gone.node);
-        } else {
-            self.show_trans(gone.node);
-        }
+        self.show(gone.is_place, gone.node);
     }
 
     /// A new place without arcs, behind all others.
@@ -417,6 +382,21 @@ impl Arena {
         pop_link(&mut self.rows);
         pop_link(&mut self.cols);
         let _arc = self.arcs.take_last();
+    }
+}
+
+/// The place, or the transition, gets the moment of its removal.
+fn mark(places: &mut Vec<Spot>, trans: &mut Vec<u32>, by_place: bool, node: u32, moment: u32)
+    requires place { by_place ≡ true → node < length places.old.items }
+    requires trans { by_place ≡ false → node < length trans.old.items }
+    ensures places { places.new.items ≡ marked_places by_place node moment places.old.items }
+    ensures trans { trans.new.items ≡ marked_trans by_place node moment trans.old.items }
+    ensures room { vec_capacity places.new ≡ vec_capacity places.old }
+{
+    if by_place {
+        places[node as usize].died = moment;
+    } else {
+        trans[node as usize] = moment;
     }
 }
 

@@ -13,7 +13,7 @@ ghost use Rattle.stg_edit.specs.Drafting.{present};
 ghost use Rattle.stg_edit.specs.Walks.{taken_places, given_places, taking_trans, giving_trans};
 ghost use Rattle.stg_edit.specs.Counted.{live_places, count_arcs};
 ghost use Rattle.stg_edit.specs.Counted as editing;
-ghost use Rattle.stg_edit.specs.Editing.{IsAsMuch, less, one_edit_less, name_in};
+ghost use Rattle.stg_edit.specs.Editing.{IsAsMuch, IsNode, less, one_edit_less, name_in, without_node};
 ghost use Rattle.stg_edit.specs.Replacing.{new_places, new_arcs, IsSmallPair};
 
 use crate::arena::Arena;
@@ -278,11 +278,7 @@ impl Editor {
         ensures undone { self.new.undone ≡ self.old.undone }
         ensures signals { self.new.signals ≡ self.old.signals }
     {
-        self.arena.sound();
-        let mark = make_mark(&self.arena);
-        self.arena.hide_place(p);
-        self.arena.sound();
-        self.marks.push_reserved(mark);
+        self.delete(true, p);
     }
 
     /// Deletes a dummy with its arcs.
@@ -295,9 +291,22 @@ impl Editor {
         ensures undone { self.new.undone ≡ self.old.undone }
         ensures signals { self.new.signals ≡ self.old.signals }
     {
+        self.delete(false, t);
+    }
+
+    /// Deletes the place, or the transition, with its arcs.
+    fn delete(&mut self, by_place: bool, node: u32)
+        requires live { IsNode by_place self.old.now node }
+        requires room { 0 < self.old.spare.edits }
+        ensures now { self.new.now ≡ without_node by_place self.old.now node }
+        ensures past { self.new.past ≡ self.old.past ++ self.old.now ∷ [] }
+        ensures spare { self.new.spare ≡ one_edit_less self.old.spare }
+        ensures undone { self.new.undone ≡ self.old.undone }
+        ensures signals { self.new.signals ≡ self.old.signals }
+    {
         self.arena.sound();
         let mark = make_mark(&self.arena);
-        self.arena.hide_trans(t);
+        self.arena.hide(by_place, node);
         self.arena.sound();
         self.marks.push_reserved(mark);
     }
@@ -322,7 +331,7 @@ impl Editor {
         self.arena.sound();
         hide_round(&mut self.arena, t);
         self.arena.sound();
-        self.arena.hide_trans(t);
+        self.arena.hide(false, t);
         self.arena.sound();
         self.marks.push_reserved(mark);
     }

@@ -1,9 +1,9 @@
 //! Cells linked in rings, on one side of the arena.
 
-ghost use Rattle.std.specs.Prelude.{◌≡◌, ◌<◌, ◌+◌, ◌-◌, ◌++◌, ◌∷◌, [], List, length, vec_len, vec_capacity};
+ghost use Rattle.std.specs.Prelude.{◌≡◌, ◌<◌, ◌+◌, ◌-◌, ◌++◌, ◌∷◌, [], List, not, length, vec_len, vec_capacity};
 ghost use Rattle.stg_edit.specs.Times.{IsSameBelow};
 ghost use Rattle.stg_edit.specs.declared.links.Link.{Link as TheLink};
-ghost use Rattle.stg_edit.specs.Links.{Frame, next_at, prev_at, unlinked, relinked, CanHide, IsHidden, CanShow, IsShown};
+ghost use Rattle.stg_edit.specs.Links.{Frame, links_of, next_at, prev_at, unlinked, relinked, CanHide, IsHidden, CanShow, IsShown};
 
 /// The cells before and after a cell in its ring.
 #[derive(Clone, Copy)]
@@ -13,7 +13,7 @@ pub struct Link {
 }
 
 /// The cells before and after x are next to each other. x keeps its own links.
-pub fn unlink(links: &mut [Link], x: u32)
+fn unlink(links: &mut [Link], x: u32)
     requires here { x < length links.old }
     requires prev { prev_at links.old x < length links.old }
     requires next { next_at links.old x < length links.old }
@@ -25,7 +25,7 @@ pub fn unlink(links: &mut [Link], x: u32)
 }
 
 /// x stands between its two cells again.
-pub fn relink(links: &mut [Link], x: u32)
+fn relink(links: &mut [Link], x: u32)
     requires here { x < length links.old }
     requires prev { prev_at links.old x < length links.old }
     requires next { next_at links.old x < length links.old }
@@ -37,7 +37,7 @@ pub fn relink(links: &mut [Link], x: u32)
 }
 
 /// The cells in the ring of `head` leave their rings on the other side.
-pub fn hide(own: &[Link], other: &mut [Link], head: u32)
+fn hide(own: &[Link], other: &mut [Link], head: u32)
     requires { (f : Frame) × CanHide f own.now other.old head }
     ensures { (f : Frame) → CanHide f own.now other.old head → IsHidden f head f.size other.old other.new }
 {
@@ -49,7 +49,7 @@ pub fn hide(own: &[Link], other: &mut [Link], head: u32)
 }
 
 /// The cells in the ring of `head` come back into their rings on the other side.
-pub fn show(own: &[Link], other: &mut [Link], head: u32)
+fn show(own: &[Link], other: &mut [Link], head: u32)
     requires { (f : Frame) × CanShow f own.now other.old head }
     ensures { (f : Frame) → CanShow f own.now other.old head → IsShown f head f.size other.old other.new }
 {
@@ -57,6 +57,38 @@ pub fn show(own: &[Link], other: &mut [Link], head: u32)
     while x != head {
         relink(other, x);
         x = own[x as usize].next;
+    }
+}
+
+/// The ring of a place, or of a transition, is taken out of those of the other side.
+pub fn hide_ring(rows: &mut Vec<Link>, cols: &mut Vec<Link>, by_place: bool, head: u32)
+    requires { (f : Frame) × CanHide f (links_of by_place rows.old.items cols.old.items) (links_of (not by_place) rows.old.items cols.old.items) head }
+    ensures ring { (f : Frame) → CanHide f (links_of by_place rows.old.items cols.old.items) (links_of (not by_place) rows.old.items cols.old.items) head → IsHidden f head f.size (links_of (not by_place) rows.old.items cols.old.items) (links_of (not by_place) rows.new.items cols.new.items) }
+    ensures kept { links_of by_place rows.new.items cols.new.items ≡ links_of by_place rows.old.items cols.old.items }
+    ensures len { length (links_of (not by_place) rows.new.items cols.new.items) ≡ length (links_of (not by_place) rows.old.items cols.old.items) }
+    ensures rows_room { vec_capacity rows.new ≡ vec_capacity rows.old }
+    ensures cols_room { vec_capacity cols.new ≡ vec_capacity cols.old }
+{
+    if by_place {
+        hide(rows, cols, head);
+    } else {
+        hide(cols, rows, head);
+    }
+}
+
+/// The ring of a place, or of a transition, is put back into those of the other side.
+pub fn show_ring(rows: &mut Vec<Link>, cols: &mut Vec<Link>, by_place: bool, head: u32)
+    requires { (f : Frame) × CanShow f (links_of by_place rows.old.items cols.old.items) (links_of (not by_place) rows.old.items cols.old.items) head }
+    ensures ring { (f : Frame) → CanShow f (links_of by_place rows.old.items cols.old.items) (links_of (not by_place) rows.old.items cols.old.items) head → IsShown f head f.size (links_of (not by_place) rows.old.items cols.old.items) (links_of (not by_place) rows.new.items cols.new.items) }
+    ensures kept { links_of by_place rows.new.items cols.new.items ≡ links_of by_place rows.old.items cols.old.items }
+    ensures len { length (links_of (not by_place) rows.new.items cols.new.items) ≡ length (links_of (not by_place) rows.old.items cols.old.items) }
+    ensures rows_room { vec_capacity rows.new ≡ vec_capacity rows.old }
+    ensures cols_room { vec_capacity cols.new ≡ vec_capacity cols.old }
+{
+    if by_place {
+        show(rows, cols, head);
+    } else {
+        show(cols, rows, head);
     }
 }
 

@@ -25,7 +25,7 @@ fn hide_at(arena: &mut Arena, x: u32)
     if is_bare(arena, x) {
         return;
     }
-    arena.hide_place(arena.far(false, x));
+    arena.hide(true, arena.far(false, x));
 }
 
 /// The places that t takes from or gives to go.

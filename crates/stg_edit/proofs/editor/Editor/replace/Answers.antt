@@ -74,8 +74,8 @@ hide_round-requires-clause-room c =
     let f = c.join_round.ensures.grown.later in
     omega (arith, c.self.invariant.log_long, f.place_room, f.trans, f.log_room)
 
-pub hide_trans-requires-clause-range : goal.hide_trans-requires-clause-range
-hide_trans-requires-clause-range c =
+pub hide-requires-clause-range : goal.hide-requires-clause-range
+hide-requires-clause-range c =
     let l = c.self.inside.arena in
     let x = base c.self.inside in
     let t = c.args.t in
@@ -84,8 +84,8 @@ hide_trans-requires-clause-range c =
     let live = live_trans x t l c.sound.ensures.timed dummy.live in
     omega (arith, live.0, c.join_round.ensures.grown.later.trans, (c.hide_round.ensures.fewer.later 0).trans)
 
-pub hide_trans-requires-clause-live : goal.hide_trans-requires-clause-live
-hide_trans-requires-clause-live c =
+pub hide-requires-clause-live : goal.hide-requires-clause-live
+hide-requires-clause-live c =
     let l = c.self.inside.arena in
     let x = base c.self.inside in
     let t = c.args.t in
@@ -94,8 +94,8 @@ hide_trans-requires-clause-live c =
     let live = live_trans x t l c.sound.ensures.timed dummy.live in
     c.hide_round.ensures.fewer.trans t ∙ c.join_round.ensures.grown.same false t ∙ live.1
 
-pub hide_trans-requires-clause-room : goal.hide_trans-requires-clause-room
-hide_trans-requires-clause-room c =
+pub hide-requires-clause-room : goal.hide-requires-clause-room
+hide-requires-clause-room c =
     let l = c.self.inside.arena in
     let x = base c.self.inside in
     let t = c.args.t in
@@ -124,14 +124,14 @@ invariant_of-self c =
     let can = can_replace x l t c.sound.ensures.timed live.0 live.1 small (omega (arith, places, c.sound.ensures.laid.places)) (omega (arith, places, arcs, c.self.invariant.roomy)) in
     let l1 = c.join_round.new.arena in
     let l2 = c.hide_round.new.arena in
-    let l3 = c.hide_trans.new.self in
+    let l3 = c.hide.new.self in
     let m : Mark = c.make_mark-mark.result in
     let marks = c.self.inside.marks.items in
-    let f = later_all x t l l1 l2 l3 c.sound.ensures.timed c.sound.ensures.laid c.sound-2.ensures.timed c.sound-3.ensures.timed c.sound-4.ensures.timed c.sound-2.ensures.laid live.0 live.1 can c.join_round.ensures c.hide_round.ensures c.hide_trans.ensures in
-    let used = used_places x t l l1 l2 l3 c.sound.ensures.timed c.sound.ensures.laid c.sound-2.ensures.timed c.sound-3.ensures.timed c.sound-4.ensures.timed c.sound-2.ensures.laid live.0 live.1 can c.join_round.ensures c.hide_round.ensures c.hide_trans.ensures in
-    let cells = used_arcs x t l l1 l2 l3 c.sound.ensures.timed c.sound.ensures.laid c.sound-2.ensures.timed c.sound-3.ensures.timed c.sound-4.ensures.timed c.sound-2.ensures.laid live.0 live.1 can c.join_round.ensures c.hide_round.ensures c.hide_trans.ensures in
+    let f = later_all x t l l1 l2 l3 c.sound.ensures.timed c.sound.ensures.laid c.sound-2.ensures.timed c.sound-3.ensures.timed c.sound-4.ensures.timed c.sound-2.ensures.laid live.0 live.1 can c.join_round.ensures c.hide_round.ensures c.hide.ensures in
+    let used = used_places x t l l1 l2 l3 c.sound.ensures.timed c.sound.ensures.laid c.sound-2.ensures.timed c.sound-3.ensures.timed c.sound-4.ensures.timed c.sound-2.ensures.laid live.0 live.1 can c.join_round.ensures c.hide_round.ensures c.hide.ensures in
+    let cells = used_arcs x t l l1 l2 l3 c.sound.ensures.timed c.sound.ensures.laid c.sound-2.ensures.timed c.sound-3.ensures.timed c.sound-4.ensures.timed c.sound-2.ensures.laid live.0 live.1 can c.join_round.ensures c.hide_round.ensures c.hide.ensures in
     record {
-      marked = rw c.push_reserved.ensures.items (marked_more l l3 marks m c.make_mark-mark.ensures f c.self.invariant.marked c.sound-4.ensures.laid c.sound-4.ensures.timed (all_cells x t l l1 l2 l3 c.sound.ensures.timed c.sound.ensures.laid c.sound-2.ensures.timed c.sound-3.ensures.timed c.sound-4.ensures.timed c.sound-2.ensures.laid live.0 live.1 can c.join_round.ensures c.hide_round.ensures c.hide_trans.ensures));
+      marked = rw c.push_reserved.ensures.items (marked_more l l3 marks m c.make_mark-mark.ensures f c.self.invariant.marked c.sound-4.ensures.laid c.sound-4.ensures.timed (all_cells x t l l1 l2 l3 c.sound.ensures.timed c.sound.ensures.laid c.sound-2.ensures.timed c.sound-3.ensures.timed c.sound-4.ensures.timed c.sound-2.ensures.laid live.0 live.1 can c.join_round.ensures c.hide_round.ensures c.hide.ensures));
       room = omega (arith, c.self.invariant.room, c.push_reserved.ensures.capacity);
       log_long = omega (arith, c.self.invariant.log_long, f.place_room, f.trans, f.log_room);
       long = omega (arith, ap length c.push_reserved.ensures.items, length-append marks (m ∷ []), ap (λ v. v.spare.edits) c.self.view_is, c.requires.room);
@@ -163,10 +163,10 @@ returns-clause-now c =
     let can = can_replace x l t c.sound.ensures.timed live.0 live.1 small (omega (arith, places, c.sound.ensures.laid.places)) (omega (arith, places, arcs, c.self.invariant.roomy)) in
     let l1 = c.join_round.new.arena in
     let l2 = c.hide_round.new.arena in
-    let l3 = c.hide_trans.new.self in
+    let l3 = c.hide.new.self in
     let m : Mark = c.make_mark-mark.result in
     let marks = c.self.inside.marks.items in
-    replaced x t l l1 l2 l3 c.sound.ensures.timed c.sound.ensures.laid c.sound-2.ensures.timed c.sound-3.ensures.timed c.sound-4.ensures.timed c.sound-2.ensures.laid live.0 live.1 can c.join_round.ensures c.hide_round.ensures c.hide_trans.ensures
+    replaced x t l l1 l2 l3 c.sound.ensures.timed c.sound.ensures.laid c.sound-2.ensures.timed c.sound-3.ensures.timed c.sound-4.ensures.timed c.sound-2.ensures.laid live.0 live.1 can c.join_round.ensures c.hide_round.ensures c.hide.ensures
     ∙ ap (λ v. contracted v.now t) c.self.view_is
 
 pub returns-clause-past : goal.returns-clause-past
@@ -186,10 +186,10 @@ returns-clause-past c =
     let can = can_replace x l t c.sound.ensures.timed live.0 live.1 small (omega (arith, places, c.sound.ensures.laid.places)) (omega (arith, places, arcs, c.self.invariant.roomy)) in
     let l1 = c.join_round.new.arena in
     let l2 = c.hide_round.new.arena in
-    let l3 = c.hide_trans.new.self in
+    let l3 = c.hide.new.self in
     let m : Mark = c.make_mark-mark.result in
     let marks = c.self.inside.marks.items in
-    let f = later_all x t l l1 l2 l3 c.sound.ensures.timed c.sound.ensures.laid c.sound-2.ensures.timed c.sound-3.ensures.timed c.sound-4.ensures.timed c.sound-2.ensures.laid live.0 live.1 can c.join_round.ensures c.hide_round.ensures c.hide_trans.ensures in
+    let f = later_all x t l l1 l2 l3 c.sound.ensures.timed c.sound.ensures.laid c.sound-2.ensures.timed c.sound-3.ensures.timed c.sound-4.ensures.timed c.sound-2.ensures.laid live.0 live.1 can c.join_round.ensures c.hide_round.ensures c.hide.ensures in
     ap (past_of x l3) c.push_reserved.ensures.items ∙ past_more l l3 marks m c.make_mark-mark.ensures f x c.self.invariant.marked ∙ ap (λ v. v.past ++ v.now ∷ []) c.self.view_is
 
 pub returns-clause-spare : goal.returns-clause-spare
@@ -209,12 +209,12 @@ returns-clause-spare c =
     let can = can_replace x l t c.sound.ensures.timed live.0 live.1 small (omega (arith, places, c.sound.ensures.laid.places)) (omega (arith, places, arcs, c.self.invariant.roomy)) in
     let l1 = c.join_round.new.arena in
     let l2 = c.hide_round.new.arena in
-    let l3 = c.hide_trans.new.self in
+    let l3 = c.hide.new.self in
     let m : Mark = c.make_mark-mark.result in
     let marks = c.self.inside.marks.items in
-    let f = later_all x t l l1 l2 l3 c.sound.ensures.timed c.sound.ensures.laid c.sound-2.ensures.timed c.sound-3.ensures.timed c.sound-4.ensures.timed c.sound-2.ensures.laid live.0 live.1 can c.join_round.ensures c.hide_round.ensures c.hide_trans.ensures in
-    let used = used_places x t l l1 l2 l3 c.sound.ensures.timed c.sound.ensures.laid c.sound-2.ensures.timed c.sound-3.ensures.timed c.sound-4.ensures.timed c.sound-2.ensures.laid live.0 live.1 can c.join_round.ensures c.hide_round.ensures c.hide_trans.ensures in
-    let cells = used_arcs x t l l1 l2 l3 c.sound.ensures.timed c.sound.ensures.laid c.sound-2.ensures.timed c.sound-3.ensures.timed c.sound-4.ensures.timed c.sound-2.ensures.laid live.0 live.1 can c.join_round.ensures c.hide_round.ensures c.hide_trans.ensures in
+    let f = later_all x t l l1 l2 l3 c.sound.ensures.timed c.sound.ensures.laid c.sound-2.ensures.timed c.sound-3.ensures.timed c.sound-4.ensures.timed c.sound-2.ensures.laid live.0 live.1 can c.join_round.ensures c.hide_round.ensures c.hide.ensures in
+    let used = used_places x t l l1 l2 l3 c.sound.ensures.timed c.sound.ensures.laid c.sound-2.ensures.timed c.sound-3.ensures.timed c.sound-4.ensures.timed c.sound-2.ensures.laid live.0 live.1 can c.join_round.ensures c.hide_round.ensures c.hide.ensures in
+    let cells = used_arcs x t l l1 l2 l3 c.sound.ensures.timed c.sound.ensures.laid c.sound-2.ensures.timed c.sound-3.ensures.timed c.sound-4.ensures.timed c.sound-2.ensures.laid live.0 live.1 can c.join_round.ensures c.hide_round.ensures c.hide.ensures in
     record {
       edits = omega (arith, ap length c.push_reserved.ensures.items, length-append marks (m ∷ []), ap (λ v. v.spare.edits) c.self.view_is);
       places = omega (arith, used, f.place_room, ap (λ v. v.spare.places) c.self.view_is, ap (λ v. new_places v.now t) c.self.view_is);
