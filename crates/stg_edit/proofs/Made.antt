@@ -140,7 +140,7 @@ made_one t x l l' l'' s small timed laid c q tokens j =
     let g = grown_place t (length l.places) s l l' timed laid q (omega arith) small in
     record {
       grown = grown_trans t (length l.places) l l' l'' g (grown_lower t (length l'.places - 1) (length l.places) l' l'' (omega (arith, more)) j.grown);
-      places = omega (arith, ap length j.places, more);
+      places = omega (arith, ap length j.kept.places, more);
       each = λ k h. let P : ℕ → Type 0 = λ k. IsMadeOf t l l'' (length l.places + k) (pair_at (x ∷ []) k) in
           subst P (let e : 0 ≡ k = omega arith in e) (here g f);
       cells = omega (arith, j.few, joined_same t (length l.places) l l' g x.0 x.1 f.first f.second, push_length (head_arc l) l l' q.pushed, sum_by-cons (pair_arcs l t) x []);
@@ -150,7 +150,7 @@ made_one t x l l' l'' s small timed laid c q tokens j =
     more = ap length q.places ∙ length-append l.places (s ∷ []) ∙ omega arith
 
     spot : spot_at l''.places (length l.places) ≡ s
-    spot = ap (λ xs. spot_at xs (length l.places)) (j.places ∙ q.places)
+    spot = ap (λ xs. spot_at xs (length l.places)) (j.kept.places ∙ q.places)
         ∙ get_or-append_right l.places (s ∷ []) (length l.places) (length l.places) no_spot refl (omega arith)
         ∙ ap (spot_at (s ∷ [])) (let z : length l.places - length l.places ≡ 0 = omega arith in z)
 

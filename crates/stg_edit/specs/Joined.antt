@@ -11,6 +11,10 @@ use Rattle.stg_edit.specs.Grown.{IsGrown}
 abbrev pub far : Layout → ℕ → ℕ
 far l x = (arc_at l.arcs x).trans
 
+-- the weight at a cell, where it is an arc of the transition u
+abbrev pub share_at : Layout → Bool → ℕ → ℕ → ℕ
+share_at l take x u = cond (far l x == u) (weight_of take (arc_at l.arcs x)) 0
+
 -- the walk goes on from x to y where it stands at the transition u, and else stays
 pub record IsStep (l : Layout) (u x y : ℕ) : Type 0 where
   pub moved : far l x ≡ u → IsNextAt (side l.arcs true) (side l.arcs false) (times_of l) (length l.log) x y
@@ -75,12 +79,7 @@ pub record CanJoin (l : Layout) (p q t : ℕ) : Type 0 where
 
 -- the row n has the sums of the rows p and q, but nothing at t, and all other rows are the same
 pub record IsJoined (l l' : Layout) (p q t n : ℕ) : Type 0 where
-  pub places : l'.places ≡ l.places
-  pub trans : l'.trans ≡ l.trans
-  pub log : l'.log ≡ l.log
-  pub log_room : l'.log_room ≡ l.log_room
-  pub cell_room : l'.cell_room ≡ l.cell_room
-  pub place_room : l'.place_room ≡ l.place_room
+  pub kept : IsKept l l'
   pub others : (take : Bool) (r v : ℕ) → r ≢ n → weight l'.arcs take r v ≡ weight l.arcs take r v
   pub sums : (take : Bool) (v : ℕ) → v < none → died l false v ≡ none → weight l'.arcs take n v ≡ cond (v == t) 0 (weight l.arcs take p v + weight l.arcs take q v)
   pub grown : IsGrown t n l l'

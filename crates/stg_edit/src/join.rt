@@ -1,24 +1,34 @@
 //! New places that stand for two: their arcs are merged.
 
-ghost use Rattle.std.specs.Prelude.{◌≡◌, ◌<◌, ◌≤◌, ◌+◌, ◌==◌, ◌-◌, ◌∷◌, [], true, false, cond, min, length};
+ghost use Rattle.std.specs.Prelude.{◌≡◌, ◌<◌, ◌≤◌, ◌+◌, ◌==◌, ◌-◌, ◌^◌, ◌∷◌, [], true, false, cond, min, length};
 ghost use Rattle.stg_edit.specs.Layout.{none, arc_at, died};
 ghost use Rattle.stg_edit.specs.Made.{CanMake, IsMade, pair_of, pairs_at, pairs_with, pairs_of, after_at, before_at};
 ghost use Rattle.stg_edit.specs.Grown.{IsGrown};
 ghost use Rattle.stg_edit.specs.Walked.{IsLive, weight_of};
-ghost use Rattle.stg_edit.specs.Joined.{far, IsStep, IsPut, IsKept, IsPutAllowed, CanJoin, IsJoined};
+ghost use Rattle.stg_edit.specs.Joined.{far, share_at, IsStep, IsPut, IsKept, IsPutAllowed, CanJoin, IsJoined};
 
 use crate::arena::{Arena, NONE};
 
 /// The weight at the cell x, where it is an arc of the transition u.
 fn share(arena: &Arena, takes: bool, x: u32, u: u32) -> u32
     requires { x < length arena.now.arcs }
-    ensures { result ≡ cond (far arena.now x == u) (weight_of takes (arc_at arena.now.arcs x)) 0 }
+    ensures { result ≡ share_at arena.now takes x u }
 {
     if arena.far(true, x) == u {
         arena.weight(takes, x)
     } else {
         0
     }
+}
+
+/// What the cells x and y have with the transition u together.
+fn shares(arena: &Arena, takes: bool, x: u32, y: u32, u: u32) -> u32
+    requires first { x < length arena.now.arcs }
+    requires second { y < length arena.now.arcs }
+    requires fit { share_at arena.now takes x u + share_at arena.now takes y u < 2 ^ 32 }
+    ensures { result ≡ share_at arena.now takes x u + share_at arena.now takes y u }
+{
+    share(arena, takes, x, u) + share(arena, takes, y, u)
 }
 
 /// The cell after x, where x is an arc of the transition u, and else x.
@@ -74,8 +84,8 @@ pub fn join_rows(arena: &mut Arena, p: u32, q: u32, t: u32)
     let mut u = least(arena, x, y);
     while u != NONE {
         arena.sound();
-        let take = share(arena, true, x, u) + share(arena, true, y, u);
-        let give = share(arena, false, x, u) + share(arena, false, y, u);
+        let take = shares(arena, true, x, y, u);
+        let give = shares(arena, false, x, y, u);
         let past_x = step_past(arena, x, u);
         let past_y = step_past(arena, y, u);
         put(arena, t, u, take, give);
