@@ -1,15 +1,17 @@
 -- The draft after a contraction.
-use Rattle.std.proofs.Common.{◌≡◌, ◌≢◌, ◌<◌, ◌≤◌, ◌+◌, ◌++◌, ◌∷◌, [], ℕ, Bool, List, true, false, cond, map, flat_map, filter, length, None, slice_get, All, ltb, leb, eqb, eq-eqb, subst, sym, ap, ◌∙◌, refl, inl, inr, zero-add, arith}
+use Rattle.std.proofs.Common.{◌≡◌, ◌≢◌, ◌<◌, ◌≤◌, ◌+◌, ◌-◌, ◌++◌, ◌∷◌, [], ℕ, Bool, List, true, false, cond, map, flat_map, filter, length, None, slice_get, All, ltb, leb, eqb, eq-eqb, subst, sym, ap, ◌∙◌, refl, inl, inr, zero-add, arith}
 use Rattle.std.specs.List.{range_with_len}
 use Rattle.std.proofs.lemmas.Bool.{cases_lt, cases_eq, cases_Bool, ne_eqb, le-leb, lt-leb, leb-true, ltb-true, ltb-false, or_cases, or_parts}
 use Rattle.std.proofs.lemmas.List.{get_or_past}
 use Rattle.std.proofs.lemmas.List.Elements.{All-map, filter_passes, All-weaker}
 use Rattle.std.proofs.lemmas.List.FromFn.{length-map-range_with_len, get_or-map-range_with_len}
-use Rattle.stg_net.specs.Graph.{Graph, place_at, takes, gives, tokens_at, taken_by, given_by}
+use Rattle.stg_net.specs.Graph.{Graph, IsDummy, place_at, takes, gives, tokens_at, taken_by, given_by}
 use Rattle.stg_net.specs.Contraction.{contracted, pairs_round, places_before, places_after}
 use Rattle.stg_edit.specs.Table.{place_of, places_of}
 use Rattle.stg_edit.specs.Layout.{Layout, none, spot_at, gone_at, died, no_spot, IsLaid, IsTimed, IsGone}
 use Rattle.stg_edit.specs.Drafting.{Base, weight, weight_at, table_at, trans_of, draft_at, now_of}
+use Rattle.stg_edit.specs.Editing.{Editing}
+use Rattle.stg_edit.specs.View.{spare_of}
 use Rattle.stg_edit.specs.Walks.{weighted}
 use Rattle.stg_edit.specs.Later.{IsLater, HasAllCells}
 use Rattle.stg_edit.specs.Joined.{joined_weight}
@@ -19,7 +21,7 @@ use Rattle.stg_edit.specs.Replacing.{arcs_of_pair, new_arcs, new_places, IsSmall
 use Rattle.stg_edit.proofs.Lists.{All-flat_map}
 use Rattle.stg_edit.proofs.Marks.{log_length, gone_old, gone_new}
 use Rattle.stg_edit.proofs.Tables.{map_but, ShowsContraction, shows_contraction}
-use Rattle.stg_edit.proofs.Drafted.{same_place}
+use Rattle.stg_edit.proofs.Drafted.{same_place, live_trans}
 use Rattle.stg_edit.proofs.Shown.{alive, tokens_now}
 use Rattle.stg_edit.proofs.Along.{weight_in, weight_now, weighted_same, along_trans}
 use Rattle.stg_edit.proofs.Later.{later_weight, later_trans, later_gone}
@@ -102,7 +104,7 @@ pair_arcs_now base l t x timed p_there p_live q_there q_live =
     λ i. length (one i) + length (two i)
 
 -- the pairs fit, and there is room for their places
-pub can_replace : (base : Base) (l : Layout) (t : ℕ) → IsTimed l → t < length l.trans → died l false t ≡ none → All (IsSmallPair (now_of base l)) (pairs_round (now_of base l) t)
+can_replace : (base : Base) (l : Layout) (t : ℕ) → IsTimed l → t < length l.trans → died l false t ≡ none → All (IsSmallPair (now_of base l)) (pairs_round (now_of base l) t)
     → length l.places + new_places (now_of base l) t ≤ l.place_room → length l.arcs + new_places (now_of base l) t + new_arcs (now_of base l) t ≤ l.cell_room → CanMake t (pairs_of l t (before_at l t)) l
 can_replace base l t timed range live small places cells =
     let P : List (ℕ × ℕ) → Type 0 = λ ps. CanMake t ps l in
@@ -139,6 +141,30 @@ can_replace base l t timed range live small places cells =
     sum : (take : Bool) (x : ℕ × ℕ) (v : ℕ) → IsSmallPair (now_of base l) x → weight_in (now_of base l) take v x.0 + weight_in (now_of base l) take v x.1 < 4294967296
     sum true x v s = s.taken v
     sum false x v s = s.given v
+
+-- t lives, and there is room for what its contraction makes
+pub record IsReplaceable (base : Base) (t : ℕ) (l : Layout) : Type 0 where
+  pub range : t < length l.trans
+  pub live : died l false t ≡ none
+  pub can : CanMake t (pairs_of l t (before_at l t)) l
+  pub places : new_places (now_of base l) t ≤ l.place_room - length l.places
+  pub arcs : new_arcs (now_of base l) t ≤ l.cell_room - length l.arcs - (l.place_room - length l.places)
+
+-- what an editor asks of a contraction, in its arena
+pub may_replace : (base : Base) (t edits : ℕ) (l : Layout) (v : Editing) → now_of base l ≡ v.now → spare_of l edits ≡ v.spare → IsTimed l → IsLaid l → length l.arcs + (l.place_room - length l.places) ≤ l.cell_room → IsDummy v.now t → new_places v.now t ≤ v.spare.places → new_arcs v.now t ≤ v.spare.arcs → All (IsSmallPair v.now) (pairs_round v.now t) → IsReplaceable base t l
+may_replace base t edits l v now spare timed laid roomy dummy0 places0 arcs0 small0 =
+    let D : Graph → Type 0 = λ g. IsDummy g t in
+    let S : Graph → Type 0 = λ g. All (IsSmallPair g) (pairs_round g t) in
+    let live = live_trans base t l timed (subst D (sym now) dummy0).live in
+    let places : new_places (now_of base l) t ≤ l.place_room - length l.places = omega (arith, places0, ap (λ g. new_places g t) now, ap (λ s. s.places) spare) in
+    let arcs : new_arcs (now_of base l) t ≤ l.cell_room - length l.arcs - (l.place_room - length l.places) = omega (arith, arcs0, ap (λ g. new_arcs g t) now, ap (λ s. s.arcs) spare) in
+    record {
+      range = live.0;
+      live = live.1;
+      can = can_replace base l t timed live.0 live.1 (subst S (sym now) small0) (omega (arith, places, laid.places)) (omega (arith, places, arcs, roomy));
+      places = places;
+      arcs = arcs;
+    }
 
 -- a contraction, step by step
 module _ (base : Base) (t : ℕ) (l l1 l2 l3 : Layout) (timed : IsTimed l) (laid : IsLaid l) (timed1 : IsTimed l1) (timed2 : IsTimed l2) (timed3 : IsTimed l3) (laid1 : IsLaid l1) (range : t < length l.trans) (live : died l false t ≡ none)
@@ -311,7 +337,7 @@ module _ (base : Base) (t : ℕ) (l l1 l2 l3 : Layout) (timed : IsTimed l) (laid
               none_of false = no_give
 
   -- the draft is the contraction
-  pub replaced : draft_at base l3 (length l3.log) (length l3.places) ≡ contracted (now_of base l) t
+  replaced : draft_at base l3 (length l3.log) (length l3.places) ≡ contracted (now_of base l) t
   replaced =
       let places =
       ap (λ m. places_of m (length l3.trans) (table_at l3 (length l3.log))) (gone.as_many true ∙ hidden.fewer.places ∙ made.places)
@@ -329,10 +355,10 @@ module _ (base : Base) (t : ℕ) (l l1 l2 l3 : Layout) (timed : IsTimed l) (laid
       trans_count = gone.as_many false ∙ (hidden.fewer.later 0).trans ∙ made.grown.later.trans
 
   -- the edit as a whole
-  pub later_all : IsLater (length l.places) l l3
+  later_all : IsLater (length l.places) l l3
   later_all = later_trans (length l.places) l l1 l3 made.grown.later (later_trans (length l.places) l1 l2 l3 (hidden.fewer.later (length l.places)) (later_gone (length l.places) false t l2 l3 timed2 gone))
 
-  pub all_cells : HasAllCells (length l.log) l3
+  all_cells : HasAllCells (length l.log) l3
   all_cells = record {
     cells = λ s from h. elim (cases_lt s (length l2.log)) [
       | inl old ↦ ap (λ x. x.cells) (gone_old false t l2 l3 s gone old) ∙ hidden.fewer.all.cells s (omega (arith, ap length made.grown.log)) old ∙ sym (ap length gone.arcs)
@@ -341,10 +367,10 @@ module _ (base : Base) (t : ℕ) (l l1 l2 l3 : Layout) (timed : IsTimed l) (laid
   }
 
   -- what is used of what is spare
-  pub used_places : length l3.places ≡ length l.places + new_places (now_of base l) t
+  used_places : length l3.places ≡ length l.places + new_places (now_of base l) t
   used_places = gone.as_many true ∙ hidden.fewer.places ∙ made.places
 
-  pub used_arcs : length l3.arcs ≤ length l.arcs + new_places (now_of base l) t + new_arcs (now_of base l) t
+  used_arcs : length l3.arcs ≤ length l.arcs + new_places (now_of base l) t + new_arcs (now_of base l) t
   used_arcs = omega (
     arith,
     ap length arcs,
@@ -352,3 +378,20 @@ module _ (base : Base) (t : ℕ) (l l1 l2 l3 : Layout) (timed : IsTimed l) (laid
     sum_same (pair_arcs l t) (arcs_of_pair (now_of base l) t) (pairs_round (now_of base l) t) (λ k h.
         let f = fits.fit k h in pair_arcs_now base l t (pair_at (pairs_round (now_of base l) t) k) timed f.first f.live_first f.second f.live_second),
   )
+
+-- from l to l' the transition t was contracted
+pub record IsReplaced (base : Base) (t : ℕ) (l l' : Layout) : Type 0 where
+  pub later : IsLater (length l.places) l l'
+  pub all_cells : HasAllCells (length l.log) l'
+  pub now : draft_at base l' (length l'.log) (length l'.places) ≡ contracted (now_of base l) t
+  pub places : length l'.places ≡ length l.places + new_places (now_of base l) t
+  pub cells : length l'.arcs ≤ length l.arcs + new_places (now_of base l) t + new_arcs (now_of base l) t
+
+pub is_replaced : (base : Base) (t : ℕ) (l l1 l2 l3 : Layout) → IsTimed l → IsLaid l → IsTimed l1 → IsTimed l2 → IsTimed l3 → IsLaid l1 → IsReplaceable base t l → IsMade t (pairs_of l t (before_at l t)) l l1 → IsHidden t none l1 l2 → IsGone false t l2 l3 → IsReplaced base t l l3
+is_replaced base t l l1 l2 l3 timed laid timed1 timed2 timed3 laid1 may made hidden gone = record {
+  later = later_all base t l l1 l2 l3 timed laid timed1 timed2 timed3 laid1 may.range may.live may.can made hidden gone;
+  all_cells = all_cells base t l l1 l2 l3 timed laid timed1 timed2 timed3 laid1 may.range may.live may.can made hidden gone;
+  now = replaced base t l l1 l2 l3 timed laid timed1 timed2 timed3 laid1 may.range may.live may.can made hidden gone;
+  places = used_places base t l l1 l2 l3 timed laid timed1 timed2 timed3 laid1 may.range may.live may.can made hidden gone;
+  cells = used_arcs base t l l1 l2 l3 timed laid timed1 timed2 timed3 laid1 may.range may.live may.can made hidden gone;
+}

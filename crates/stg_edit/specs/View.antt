@@ -1,5 +1,5 @@
 -- The view of an editor, and what is true of its fields.
-use Rattle.std.specs.Prelude.{◌≡◌, ◌≢◌, ◌≤◌, ◌<◌, ◌-◌, ◌+◌, ◌^◌, ◌==◌, ℕ, false, List, map, length, All, AllPairs, slice_index_or, vec_capacity}
+use Rattle.std.specs.Prelude.{◌≡◌, ◌≢◌, ◌≤◌, ◌<◌, ◌-◌, ◌+◌, ◌^◌, ◌==◌, ℕ, Bool, false, List, map, length, All, AllPairs, slice_index_or, vec_capacity}
 use Rattle.std.specs.List.{list_any}
 use Rattle.stg_net.specs.declared.signal.Signal.{Signal}
 use Rattle.stg_net.specs.declared.trans.TransName.{TransName}
@@ -29,17 +29,22 @@ editing e = record {
   signals = e.signals;
 }
 
+-- the names differ and are in range, and a flag for each signal tells whether it is known
+pub record IsNamed (signals : List Signal) (names : List TransName) (known : List ℕ) (is_known : List Bool) : Type 0 where
+  pub in_range : All (λ (t : TransName). t.signal < length signals) names
+  pub known_there : All (λ s. s < length signals) known
+  pub names_differ : AllPairs (λ (s t : Signal). s.name ≢ t.name) signals
+  pub trans_differ : AllPairs (λ (s t : TransName). s ≢ t) names
+  pub signals_fit : length signals < 2 ^ 32
+  pub flagged : (s : ℕ) → slice_index_or is_known s false ≡ list_any (λ k. k == s) known
+  pub flags_long : length is_known ≡ length signals
+
+-- what is true of an editor's fields
 pub record IsEditor (e : Inside) : Type 0 where
   pub marked : IsMarked e.arena e.marks.items
   pub room : e.edit_room ≤ vec_capacity e.marks
   pub log_long : e.arena.place_room + many e.arena false ≤ e.arena.log_room
   pub long : length e.marks.items ≤ e.edit_room
   pub roomy : length e.arena.arcs + (e.arena.place_room - length e.arena.places) ≤ e.arena.cell_room
-  pub named : length e.names ≡ length e.arena.trans
-  pub in_range : All (λ (t : TransName). t.signal < length e.signals) e.names
-  pub known_there : All (λ s. s < length e.signals) e.known
-  pub names_differ : AllPairs (λ (s t : Signal). s.name ≢ t.name) e.signals
-  pub trans_differ : AllPairs (λ (s t : TransName). s ≢ t) e.names
-  pub signals_fit : length e.signals < 2 ^ 32
-  pub shown : (s : ℕ) → slice_index_or e.shown.items s false ≡ list_any (λ k. k == s) e.known
-  pub shown_long : length e.shown.items ≡ length e.signals
+  pub names_long : length e.names ≡ length e.arena.trans
+  pub named : IsNamed e.signals e.names e.known e.is_known.items

@@ -47,7 +47,7 @@ pub struct Editor {
     names: Seq<TransName>,
     known: Nums,
     /// For each signal, whether it is known.
-    shown: Vec<bool>,
+    is_known: Vec<bool>,
     marks: Vec<Mark>,
     edit_room: u32,
     first_places: u32,
@@ -84,7 +84,7 @@ impl Editor {
             signals: copy_signals(alloc, net.signals())?,
             names: Seq::from_slice(alloc, net.trans())?,
             known: Seq::from_slice(alloc, known.as_slice())?,
-            shown: mark_known(alloc, net.signals().len(), known.as_slice())?,
+            is_known: mark_known(alloc, net.signals().len(), known.as_slice())?,
             marks: Vec::new(alloc),
             edit_room: 0,
             first_places: net.tokens().len() as u32,
@@ -140,7 +140,7 @@ impl Editor {
         ensures { IsTrue result ↔ IsDummy self.now.now t }
     {
         let name = self.name(t);
-        !self.shown[name.signal as usize]
+        !self.is_known[name.signal as usize]
     }
 
     /// The name of a live transition, with the number of its signal in the net.
@@ -250,7 +250,7 @@ impl Editor {
         requires { s < length self.now.signals }
         ensures { result ≡ is_among self.now.now.known (signal_at self.now.signals s).name }
     {
-        self.shown[s as usize]
+        self.is_known[s as usize]
     }
 
     /// Hands out what is true of each editor.
@@ -422,12 +422,12 @@ fn copy_signals(alloc: Global, signals: &[Signal]) -> Result<Seq<Signal>, NoMemo
 /// For each signal, whether it is one of the known ones.
 fn mark_known(alloc: Global, signals: usize, known: &[u32]) -> Result<Vec<bool>, NoMemory>
     requires { All (λ s. s < signals) known.now }
-    ensures shown { IfOk result (λ v. (s : ℕ) → slice_index_or v.items s false ≡ list_any (λ k. k == s) known.now) }
+    ensures flags { IfOk result (λ v. (s : ℕ) → slice_index_or v.items s false ≡ list_any (λ k. k == s) known.now) }
     ensures len { IfOk result (λ v. length v.items ≡ signals) }
 {
-    let mut shown = vec![in alloc; false; signals]?;
+    let mut flags = vec![in alloc; false; signals]?;
     for signal in known {
-        shown[*signal as usize] = true;
+        flags[*signal as usize] = true;
     }
-    Ok(shown)
+    Ok(flags)
 }

@@ -5,6 +5,6 @@ use Rattle.stg_edit.proofs.editor.mark_known.Given as goal
 -- a signal is marked, or it is among those that are left, exactly where it is known
 abbrev pub invariant-loop-signal : goal.invariant-loop-signal
 invariant-loop-signal l = record {
-  marked : (s : ℕ) → (get_or l.shown.items s false || list_any (λ k. k == s) (drop l.signal-index l.known)) ≡ list_any (λ k. k == s) l.known;
-  len : length l.shown.items ≡ l.signals;
+  marked : (s : ℕ) → (get_or l.flags.items s false || list_any (λ k. k == s) (drop l.signal-index l.known)) ≡ list_any (λ k. k == s) l.known;
+  len : length l.flags.items ≡ l.signals;
 }

@@ -39,14 +39,8 @@ invariant_of-self c =
       log_long = omega (arith, c.self.invariant.log_long, g.place_room, g.as_many false, g.log_room);
       long = omega (arith, ap length c.push_reserved.ensures.items, length-append c.self.inside.marks.items (m ∷ []), ap (λ v. v.spare.edits) c.self.view_is, c.requires.room);
       roomy = omega (arith, c.self.invariant.roomy, ap length g.arcs, g.as_many true, g.place_room, g.cell_room);
-      named = c.self.invariant.named ∙ sym (g.as_many false);
-      in_range = c.self.invariant.in_range;
-      known_there = c.self.invariant.known_there;
-      names_differ = c.self.invariant.names_differ;
-      trans_differ = c.self.invariant.trans_differ;
-      signals_fit = c.self.invariant.signals_fit;
-      shown = c.self.invariant.shown;
-      shown_long = c.self.invariant.shown_long;
+      names_long = c.self.invariant.names_long ∙ sym (g.as_many false);
+      named = c.self.invariant.named;
     }
 
 pub returns-clause-now : goal.returns-clause-now

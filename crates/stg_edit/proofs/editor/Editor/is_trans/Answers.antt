@@ -12,5 +12,5 @@ returns c =
     let P : Editing → Type 0 = λ v. IsTrue c.is_live.result ↔ IsTrans v.now c.args.t in
     let l = c.self.inside.arena in
     let x = base c.self.inside in
-    let long = length-map c.self.inside.names (name_in c.self.inside.signals) ∙ c.self.invariant.named in
+    let long = length-map c.self.inside.names (name_in c.self.inside.signals) ∙ c.self.invariant.names_long in
     subst P c.self.view_is (λ yes. is_trans_now x l c.args.t c.sound.ensures.timed long (c.is_live.ensures.0 yes), λ live. c.is_live.ensures.1 (live_trans x c.args.t l c.sound.ensures.timed live))

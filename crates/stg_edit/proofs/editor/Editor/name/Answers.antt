@@ -13,7 +13,7 @@ pub bounds-as_slice-t : goal.bounds-as_slice-t
 bounds-as_slice-t c =
     let P : Editing → Type 0 = λ v. IsTrans v.now c.args.t in
     let live = live_trans (base c.self.inside) c.args.t c.self.inside.arena c.sound.ensures.timed (subst P (sym c.self.view_is) c.requires) in
-    omega (arith, live.0, c.self.invariant.named, ap length c.as_slice.ensures)
+    omega (arith, live.0, c.self.invariant.names_long, ap length c.as_slice.ensures)
 
 pub returns-clause-name : goal.returns-clause-name
 returns-clause-name c =
@@ -24,7 +24,7 @@ returns-clause-name c =
     let signals = c.self.inside.signals in
     let P : Editing → Type 0 = λ v. IsTrans v.now t in
     let live = live_trans (base c.self.inside) t l c.sound.ensures.timed (subst P (sym c.self.view_is) c.requires) in
-    let range : t < length names = omega (arith, live.0, c.self.invariant.named) in
+    let range : t < length names = omega (arith, live.0, c.self.invariant.names_long) in
     let Q : Editing → Type 0 = λ v. full_name_at v.now t ≡ Some (name_in v.signals (get_or c.as_slice.result.now t d)) in
     subst Q c.self.view_is
     (name_now (base c.self.inside) l t c.sound.ensures.timed live.0 live.1
@@ -38,5 +38,5 @@ returns-clause-signal c =
     let t = c.args.t in
     let P : Editing → Type 0 = λ v. IsTrans v.now t in
     let live = live_trans (base c.self.inside) t c.self.inside.arena c.sound.ensures.timed (subst P (sym c.self.view_is) c.requires) in
-    let range : t < length c.self.inside.names = omega (arith, live.0, c.self.invariant.named) in
-    omega (arith, c.self.invariant.in_range t d range, ap (λ (ns : List TransName). (get_or ns t d).signal) c.as_slice.ensures, ap (λ v. length v.signals) c.self.view_is)
+    let range : t < length c.self.inside.names = omega (arith, live.0, c.self.invariant.names_long) in
+    omega (arith, c.self.invariant.named.in_range t d range, ap (λ (ns : List TransName). (get_or ns t d).signal) c.as_slice.ensures, ap (λ v. length v.signals) c.self.view_is)

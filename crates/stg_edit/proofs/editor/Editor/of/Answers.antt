@@ -45,12 +45,14 @@ invariant_of-result c =
       log_long = omega (arith, f.log_room, f.place_room, f.trans);
       long = omega arith;
       roomy = omega (arith, f.room, f.places, f.place_room);
-      named = ap length names ∙ sym f.trans;
-      in_range = let Q : Signals → Type 0 = λ x. R x.names x.signals in subst Q (λ i. record { signals = sym signals i; names = sym names i; known = sym known i }) net.trans_signals;
-      known_there = let Q : Signals → Type 0 = λ x. K x.known x.signals in subst Q (λ i. record { signals = sym signals i; names = sym names i; known = sym known i }) c.requires.in_range;
-      names_differ = subst D (sym signals) net.signal_names;
-      trans_differ = subst E (sym names) net.trans_names;
-      signals_fit = rw signals net.signals_fit;
-      shown = λ s. c.in_ok-mark_known.ensures.shown s ∙ ap (list_any (λ k. k == s)) (c.as_slice-2.ensures ∙ sym known);
-      shown_long = c.in_ok-mark_known.ensures.len ∙ ap length (c.signals-2.ensures.signals ∙ sym signals);
+      names_long = ap length names ∙ sym f.trans;
+      named = record {
+        in_range = let Q : Signals → Type 0 = λ x. R x.names x.signals in subst Q (λ i. record { signals = sym signals i; names = sym names i; known = sym known i }) net.trans_signals;
+        known_there = let Q : Signals → Type 0 = λ x. K x.known x.signals in subst Q (λ i. record { signals = sym signals i; names = sym names i; known = sym known i }) c.requires.in_range;
+        names_differ = subst D (sym signals) net.signal_names;
+        trans_differ = subst E (sym names) net.trans_names;
+        signals_fit = rw signals net.signals_fit;
+        flagged = λ s. c.in_ok-mark_known.ensures.flags s ∙ ap (list_any (λ k. k == s)) (c.as_slice-2.ensures ∙ sym known);
+        flags_long = c.in_ok-mark_known.ensures.len ∙ ap length (c.signals-2.ensures.signals ∙ sym signals);
+      };
     }

@@ -31,12 +31,6 @@ invariant_of-self-2 c =
       log_long = c.in_ok-reserve-2.ensures.ok.log_long;
       long = omega (arith, ap length c.reserve.ensures.items, c.self.invariant.long, c.max-self-inside.ensures);
       roomy = c.in_ok-reserve-2.ensures.ok.roomy;
-      named = c.self.invariant.named ∙ sym (ap (λ (l : Layout). length l.trans) same);
-      in_range = c.self.invariant.in_range;
-      known_there = c.self.invariant.known_there;
-      names_differ = c.self.invariant.names_differ;
-      trans_differ = c.self.invariant.trans_differ;
-      signals_fit = c.self.invariant.signals_fit;
-      shown = c.self.invariant.shown;
-      shown_long = c.self.invariant.shown_long;
+      names_long = c.self.invariant.names_long ∙ sym (ap (λ (l : Layout). length l.trans) same);
+      named = c.self.invariant.named;
     }

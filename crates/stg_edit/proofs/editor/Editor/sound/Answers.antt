@@ -29,17 +29,17 @@ returns c =
     λ t low live.
     name_now x l t timed low live
     ∙ slice_get-map (name_in e.signals) e.names t
-    ∙ ap (option_map (name_in e.signals)) (slice_get-get_or e.names t d (omega (arith, low, c.self.invariant.named))) in
+    ∙ ap (option_map (name_in e.signals)) (slice_get-get_or e.names t d (omega (arith, low, c.self.invariant.names_long))) in
     subst IsFit c.self.view_is (record {
-      names_differ = c.self.invariant.names_differ;
+      names_differ = c.self.invariant.named.names_differ;
       trans_differ = λ t u live same.
           let a = live_trans x t l timed live in
           let b = live_trans x u l timed (ap is_some (sym same) ∙ live) in
-          same_names e.signals e.names t u d c.self.invariant.names_differ c.self.invariant.trans_differ c.self.invariant.in_range
-          (omega (arith, a.0, c.self.invariant.named)) (omega (arith, b.0, c.self.invariant.named))
+          same_names e.signals e.names t u d c.self.invariant.named.names_differ c.self.invariant.named.trans_differ c.self.invariant.named.in_range
+          (omega (arith, a.0, c.self.invariant.names_long)) (omega (arith, b.0, c.self.invariant.names_long))
           (sym (at t a.0 a.1) ∙ same ∙ at u b.0 b.1);
-      bare = λ t p low gone. gone_bare x l t p (length-map e.names (name_in e.signals) ∙ c.self.invariant.named) (omega (arith, low, length-map-range_with_len (trans_of l x.names (length l.log)) 0 (length l.trans))) gone;
-      signals_fit = c.self.invariant.signals_fit;
+      bare = λ t p low gone. gone_bare x l t p (length-map e.names (name_in e.signals) ∙ c.self.invariant.names_long) (omega (arith, low, length-map-range_with_len (trans_of l x.names (length l.log)) 0 (length l.trans))) gone;
+      signals_fit = c.self.invariant.named.signals_fit;
       trans_fit = omega (arith, laid.sizes false, length-map-range_with_len (trans_of l x.names (length l.log)) 0 (length l.trans));
       places_fit = omega (arith, laid.places, laid.most_places, length-map-range_with_len (place_of (length l.trans) (table_at l (length l.log))) 0 (length l.places));
     })

@@ -45,14 +45,8 @@ invariant_of-self c =
       log_long = omega (arith, c.self.invariant.log_long, later.place_room, later.trans, later.log_room);
       long = omega (arith, c.self.invariant.long, ap length c.take_last-mark.ensures.items, length-append marks (m ∷ []));
       roomy = omega (arith, c.self.invariant.roomy, later.place_room, later.cell_room, later.places, popped.slim, ap length c.show_to.ensures.back.arcs, c.show_to.ensures.back.places, c.sound.ensures.laid.places);
-      named = c.self.invariant.named ∙ later.trans;
-      in_range = c.self.invariant.in_range;
-      known_there = c.self.invariant.known_there;
-      names_differ = c.self.invariant.names_differ;
-      trans_differ = c.self.invariant.trans_differ;
-      signals_fit = c.self.invariant.signals_fit;
-      shown = c.self.invariant.shown;
-      shown_long = c.self.invariant.shown_long;
+      names_long = c.self.invariant.names_long ∙ later.trans;
+      named = c.self.invariant.named;
     }
 
 pub returns-clause-back : goal.returns-clause-back
