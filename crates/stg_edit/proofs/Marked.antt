@@ -1,5 +1,5 @@
 -- The marks of edits, and the drafts before them.
-use Rattle.std.proofs.Common.{◌≡◌, ◌<◌, ◌≤◌, ◌⊎◌, ◌+◌, ◌-◌, ◌++◌, ◌∷◌, [], ℕ, Bool, true, List, length, sym, ap, ◌∙◌, refl, inl, inr, arith}
+use Rattle.std.proofs.Common.{◌≡◌, ◌<◌, ◌≤◌, ◌⊎◌, ◌+◌, ◌-◌, ◌++◌, ◌∷◌, [], ℕ, Bool, true, List, length, subst, sym, ap, ◌∙◌, refl, inl, inr, arith}
 use Rattle.std.proofs.lemmas.Bool.{cases_lt, le-leb, leb-true}
 use Rattle.std.proofs.lemmas.List.{get_or_past, get_or_default, get_or-map, length-map, same_lists, map-append, length-append, get_or_append_left, get_or-append_right}
 use Rattle.stg_edit.specs.declared.editor.Mark.{Mark}
@@ -7,7 +7,7 @@ use Rattle.stg_edit.specs.Layout.{Layout, arc_at, end_of, died, gone_at, IsLaid,
 use Rattle.stg_edit.specs.Drafting.{Base, draft_at, now_of, past_of, present, mark_at, IsMarked}
 use Rattle.stg_edit.specs.Later.{IsLater, HasAllCells, IsBack}
 use Rattle.stg_edit.specs.Popping.{CanPop, IsPopping}
-use Rattle.stg_edit.proofs.Later.{draft_later, later_old, later_new, later_length}
+use Rattle.stg_edit.proofs.Later.{draft_later, later_old, later_new, later_length, later_trans}
 use Rattle.stg_edit.proofs.Marks.{log_length, gone_new}
 use Rattle.stg_edit.proofs.Popping.{popped_places}
 
@@ -235,6 +235,27 @@ taken_back l l' l'' m moment popped cells laid =
     let fewer = popped_places m.places m.cells l'' laid popped.can cells in
     let places : length l''.places ≡ m.places = omega (arith, popped.can.few) in
     λ i. record { moment = logs i; places = places i; cells = cells i }
+
+-- the last edit was taken back, from l to l'
+pub record IsUndone (base : Base) (all marks : List Mark) (m : Mark) (l l' : Layout) : Type 0 where
+  pub later : IsLater m.places l' l
+  pub marked : IsMarked l' marks
+  pub past : past_of base l all ≡ past_of base l' marks ++ now_of base l' ∷ []
+  pub slim : length l.places + length l'.arcs ≤ length l.arcs + length l'.places
+
+pub is_undone : (base : Base) (l l' l'' : Layout) (all marks : List Mark) (m : Mark) → all ≡ marks ++ m ∷ [] → IsMarked l all → IsTimed l → IsLaid l → IsBack m.moment l l' → length l'.log ≡ m.moment → IsTimed l' → ((n : ℕ) → CanPop n m.cells l' → IsPopping n m.cells l' l'') → length l''.arcs ≡ m.cells → IsLaid l'' → IsUndone base all marks m l l''
+is_undone base l l' l'' all marks m ends marked0 timed laid back shown timed' pops cells laid'' =
+    let P : List Mark → Type 0 = λ ms. IsMarked l ms in
+    let marked : IsMarked l (marks ++ m ∷ []) = subst P ends marked0 in
+    let popped = pops m.places ((last_mark l marks m marked timed laid).can l' back shown timed') in
+    let later = later_trans m.places l'' l' l popped.later (back.later m.places) in
+    let is = taken_back l l' l'' m shown popped cells laid'' in
+    record {
+      later = later;
+      marked = marked_back l l'' marks m is later marked;
+      past = ap (past_of base l) ends ∙ past_less l l'' marks m is later base marked;
+      slim = omega (arith, popped.slim, ap length back.arcs, back.places);
+    }
 
 -- without edits
 pub marked_first : (l : Layout) → IsTimed l → IsLaid l → IsMarked l []
