@@ -58,7 +58,7 @@ pub fn list_trans(alloc: Global, editor: &Editor) -> Result<Nums, NoMemory>
     ensures { IfOk result (λ list. list ≡ numbers_where (λ t. is_some (full_name_at editor.now.now t)) (length editor.now.now.trans)) }
 {
     let mut list = Seq::new(alloc);
-    for t in 0..editor.count_trans() {
+    for t in 0..editor.all_trans() {
         if has_trans(editor, t) {
             list.push(t)?;
         }
@@ -165,7 +165,7 @@ fn list_taken(alloc: Global, editor: &Editor, p: u32) -> Result<Vec<u32>, NoMemo
     ensures len { IfOk result (λ row. length row.items ≡ length editor.now.now.trans) }
     ensures weights { IfOk result (λ row. (t : ℕ) → t < length editor.now.now.trans → slice_index row.items t ≡ takes editor.now.now t p) }
 {
-    let mut row = vec![in alloc; 0; editor.count_trans() as usize]?;
+    let mut row = vec![in alloc; 0; editor.all_trans() as usize]?;
     for (t, weight) in editor.takers(p) {
         row[t as usize] = weight;
     }
@@ -178,7 +178,7 @@ fn list_given(alloc: Global, editor: &Editor, p: u32) -> Result<Vec<u32>, NoMemo
     ensures len { IfOk result (λ row. length row.items ≡ length editor.now.now.trans) }
     ensures weights { IfOk result (λ row. (t : ℕ) → t < length editor.now.now.trans → slice_index row.items t ≡ gives editor.now.now t p) }
 {
-    let mut row = vec![in alloc; 0; editor.count_trans() as usize]?;
+    let mut row = vec![in alloc; 0; editor.all_trans() as usize]?;
     for (t, weight) in editor.givers(p) {
         row[t as usize] = weight;
     }

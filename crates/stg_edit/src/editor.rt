@@ -1,8 +1,9 @@
 //! The editor: a graph under work, and its earlier drafts.
 
-ghost use Rattle.std.specs.Prelude.{◌≡◌, ◌==◌, ◌<◌, ◌≤◌, ◌↔◌, ◌+◌, ◌-◌, ◌^◌, ◌++◌, ◌∷◌, [], ℕ, Some, false, length, min, All, IfOk, OnOk, OnErr, IsTrue, slice_index_or};
+ghost use Rattle.std.specs.Prelude.{◌≡◌, ◌≢◌, ◌==◌, ◌<◌, ◌≤◌, ◌↔◌, ◌+◌, ◌-◌, ◌^◌, ◌++◌, ◌∷◌, [], ℕ, Some, false, length, min, All, AllPairs, IfOk, OnOk, OnErr, IsTrue, slice_index_or};
 ghost use Rattle.std.specs.List.{list_any};
 ghost use Rattle.stg_net.specs.declared.limits.TheConstants.Limits.{PART};
+ghost use Rattle.stg_net.specs.declared.signal.Signal.{Signal as ThisSignal};
 ghost use Rattle.stg_net.specs.Net.{IsWithin, signal_at};
 ghost use Rattle.stg_net.specs.Initial.{initial};
 ghost use Rattle.stg_net.specs.Contraction.{without_place, without_trans, contracted, pairs_round};
@@ -231,16 +232,17 @@ impl Editor {
         self.arena.count_places()
     }
 
-    /// The number of the net's transitions.
-    pub(crate) fn count_trans(&self) -> u32
+    /// The number of the net's transitions, live or not.
+    pub fn all_trans(&self) -> u32
         ensures { result ≡ length self.now.now.trans }
     {
         self.arena.count_trans()
     }
 
     /// The signals of the net.
-    pub(crate) fn signals(&self) -> &[Signal]
-        ensures { result.now ≡ self.now.signals }
+    pub fn signals(&self) -> &[Signal]
+        ensures value { result.now ≡ self.now.signals }
+        ensures names { AllPairs (λ (s t : ThisSignal). s.name ≢ t.name) self.now.signals }
     {
         self.signals.as_slice()
     }

@@ -8,7 +8,7 @@ pub loop-t-init : goal.loop-t-init
 loop-t-init c =
     let g = c.args.editor.now.now in
     let long : length c.in_ok-row.row.items ≡ length g.trans = search rules in
-    let zeros : (t : ℕ) → t < length g.trans → slice_index c.in_ok-row.row.items t ≡ 0 = λ t low. ap (λ xs. slice_index xs t) (c.in_ok-row.ensures.items_if_clones_equal (λ y e. e)) ∙ get_or-replicate c.count_trans.result t 0 0 (omega (arith, low, c.count_trans.ensures)) in
+    let zeros : (t : ℕ) → t < length g.trans → slice_index c.in_ok-row.row.items t ≡ 0 = λ t low. ap (λ xs. slice_index xs t) (c.in_ok-row.ensures.items_if_clones_equal (λ y e. e)) ∙ get_or-replicate c.all_trans.result t 0 0 (omega (arith, low, c.all_trans.ensures)) in
     filling_starts (length g.trans) (λ t. gives g t c.args.p) c.in_ok-row.row.items c.into_iter-t-iterator.result (c.into_iter-t-iterator.ensures.into_iter_gives ∙ c.givers-t-items.ensures) long zeros
 
 pub index_mut-requires : goal.index_mut-requires

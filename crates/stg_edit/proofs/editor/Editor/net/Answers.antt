@@ -14,7 +14,7 @@ pub show_signals-requires : goal.show_signals-requires
 show_signals-requires c =
     let e = c.args.self.now in
     let same : c.as_slice-2.result.now ≡ known_signals e.signals e.now = c.as_slice-2.ensures ∙ c.in_ok-kept.ensures ∙ known_listed e.signals e.now in
-    let long : length e.signals ≡ length c.signals.result.now = sym (ap length c.signals.ensures) in
+    let long : length e.signals ≡ length c.signals.result.now = sym (ap length c.signals.ensures.value) in
     subst (λ n. All (λ k. k < n) c.as_slice-2.result.now) long
     (all_of (λ k. k < length e.signals) c.as_slice-2.result.now (known_signals e.signals e.now) same (kept_below (λ s. is_among e.now.known (signal_at e.signals s).name) (length e.signals)))
 
@@ -36,7 +36,7 @@ list_names-requires-clause-shown c =
     let e = c.args.self.now in
     let kept : c.as_slice-2.result.now ≡ c.as_slice-4.result.now = c.as_slice-2.ensures ∙ sym c.as_slice-4.ensures in
     let same : map (signal_shown e.signals c.args.own.now) c.as_slice-4.result.now ≡ c.as_slice-3.result.now =
-    sym (c.as_slice-3.ensures ∙ c.in_ok-signals.ensures ∙ (λ i. map (signal_shown (c.signals.ensures i) (c.as_slice.ensures i)) (kept i))) in
+    sym (c.as_slice-3.ensures ∙ c.in_ok-signals.ensures ∙ (λ i. map (signal_shown (c.signals.ensures.value i) (c.as_slice.ensures i)) (kept i))) in
     subst (IsShownBy e.signals c.as_slice-4.result.now) same (shown_by e.signals c.args.own.now c.as_slice-4.result.now)
 
 pub list_names-requires-clause-fit : goal.list_names-requires-clause-fit
@@ -44,7 +44,7 @@ list_names-requires-clause-fit c =
     let e = c.args.self.now in
     let kept : c.as_slice-2.result.now ≡ known_signals e.signals e.now = c.as_slice-2.ensures ∙ c.in_ok-kept.ensures ∙ known_listed e.signals e.now in
     let same : map (signal_shown e.signals c.args.own.now) (known_signals e.signals e.now) ≡ c.as_slice-3.result.now =
-    sym (c.as_slice-3.ensures ∙ c.in_ok-signals.ensures ∙ (λ i. map (signal_shown (c.signals.ensures i) (c.as_slice.ensures i)) (kept i))) in
+    sym (c.as_slice-3.ensures ∙ c.in_ok-signals.ensures ∙ (λ i. map (signal_shown (c.signals.ensures.value i) (c.as_slice.ensures i)) (kept i))) in
     subst (λ (xs : List Signal). length xs < 2 ^ 32) same (few_signals e.signals c.args.own.now e.now c.sound.ensures.signals_fit)
 
 pub list_tokens-requires : goal.list_tokens-requires
@@ -82,7 +82,7 @@ of-requires c =
     let listed =
     listed_from e c.args.own.now n c.as_slice-3.result.now c.as_slice-2.result.now c.as_slice-5.result.now c.as_slice-6.result.now c.as_slice-7.result.now c.as_slice-8.result.now
     kept (c.as_slice-5.ensures ∙ trans) (c.as_slice-6.ensures ∙ places) (c.as_slice-7.ensures ∙ places) (c.as_slice-8.ensures ∙ trans)
-    (c.in_ok-signals.ensures ∙ (λ i. map (signal_shown (c.signals.ensures i) (c.as_slice.ensures i)) c.as_slice-2.result.now))
+    (c.in_ok-signals.ensures ∙ (λ i. map (signal_shown (c.signals.ensures.value i) (c.as_slice.ensures i)) c.as_slice-2.result.now))
     c.as_slice-3.ensures c.in_ok-names.ensures.names c.in_ok-names.ensures.there c.in_ok-tokens.ensures c.in_ok-arcs.ensures in
     listed_is_net e c.args.own.now n c.sound.ensures listed
 
@@ -96,7 +96,7 @@ returns-clause-value c =
     let listed =
     listed_from e c.args.own.now n c.as_slice-3.result.now c.as_slice-2.result.now c.as_slice-5.result.now c.as_slice-6.result.now c.as_slice-7.result.now c.as_slice-8.result.now
     kept (c.as_slice-5.ensures ∙ trans) (c.as_slice-6.ensures ∙ places) (c.as_slice-7.ensures ∙ places) (c.as_slice-8.ensures ∙ trans)
-    (c.in_ok-signals.ensures ∙ (λ i. map (signal_shown (c.signals.ensures i) (c.as_slice.ensures i)) c.as_slice-2.result.now))
+    (c.in_ok-signals.ensures ∙ (λ i. map (signal_shown (c.signals.ensures.value i) (c.as_slice.ensures i)) c.as_slice-2.result.now))
     c.as_slice-3.ensures c.in_ok-names.ensures.names c.in_ok-names.ensures.there c.in_ok-tokens.ensures c.in_ok-arcs.ensures in
     subst (IsNetOf e c.args.own.now) (sym c.of.ensures) (listed_shows e c.args.own.now n listed)
 
@@ -110,6 +110,6 @@ returns-clause-arcs c =
     let listed =
     listed_from e c.args.own.now n c.as_slice-3.result.now c.as_slice-2.result.now c.as_slice-5.result.now c.as_slice-6.result.now c.as_slice-7.result.now c.as_slice-8.result.now
     kept (c.as_slice-5.ensures ∙ trans) (c.as_slice-6.ensures ∙ places) (c.as_slice-7.ensures ∙ places) (c.as_slice-8.ensures ∙ trans)
-    (c.in_ok-signals.ensures ∙ (λ i. map (signal_shown (c.signals.ensures i) (c.as_slice.ensures i)) c.as_slice-2.result.now))
+    (c.in_ok-signals.ensures ∙ (λ i. map (signal_shown (c.signals.ensures.value i) (c.as_slice.ensures i)) c.as_slice-2.result.now))
     c.as_slice-3.ensures c.in_ok-names.ensures.names c.in_ok-names.ensures.there c.in_ok-tokens.ensures c.in_ok-arcs.ensures in
     ap (λ (m : NetLists). length m.arcs) c.of.ensures ∙ listed_count e c.args.own.now n c.sound.ensures listed

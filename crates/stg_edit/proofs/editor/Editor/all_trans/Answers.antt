@@ -2,7 +2,7 @@ use Rattle.std.proofs.Common.{length, sym, ap, ◌∙◌}
 use Rattle.std.proofs.lemmas.List.FromFn.{length-map-range_with_len}
 use Rattle.stg_edit.specs.Drafting.{trans_of}
 use Rattle.stg_edit.specs.View.{base}
-use Rattle.stg_edit.proofs.editor.Editor.count_trans.Goals as goal
+use Rattle.stg_edit.proofs.editor.Editor.all_trans.Goals as goal
 
 pub returns : goal.returns
 returns c =
