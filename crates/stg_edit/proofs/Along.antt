@@ -5,7 +5,7 @@ use Rattle.std.proofs.lemmas.Bool.{cases_eq, cases_lt, cases_order, cond_both, n
 use Rattle.std.proofs.lemmas.List.FromFn.{get_or-map-range_with_len, length-map-range_with_len}
 use Rattle.stg_net.specs.Graph.{Graph, place_at, takes, gives, taken_by, given_by}
 use Rattle.stg_edit.specs.Table.{place_of}
-use Rattle.stg_edit.specs.Layout.{Layout, none, many, arc_at, end_of, head_of, died, until_of, side, times_of, IsLaid, IsTimed}
+use Rattle.stg_edit.specs.Layout.{Layout, none, count_of, arc_at, end_of, head_of, died, until_of, side, times_of, IsLaid, IsTimed}
 use Rattle.stg_edit.specs.Walked.{items_from, weight_of, is_item, item_of, left_from, left}
 use Rattle.stg_edit.specs.Drafting.{Base, weight, weight_at, table_at, trans_of, now_of}
 use Rattle.stg_edit.specs.Walks.{weighted_from, weighted}
@@ -43,7 +43,7 @@ module _ (l : Layout) (b : Bool) (k : ℕ) (take : Bool) (laid : IsLaid l) (time
 
   -- those from x on end at j or later
   record IsAhead (x j : ℕ) : Type 0 where
-    ahead : (c : ℕ) → x ≤ c → c < length l.arcs → end_of b (arc_at l.arcs c) ≡ k → (j ≤ end_of (not b) (arc_at l.arcs c)) × (end_of (not b) (arc_at l.arcs c) < many l (not b))
+    ahead : (c : ℕ) → x ≤ c → c < length l.arcs → end_of b (arc_at l.arcs c) ≡ k → (j ≤ end_of (not b) (arc_at l.arcs c)) × (end_of (not b) (arc_at l.arcs c) < count_of l (not b))
 
   no_weight : (j : ℕ) → ((c : ℕ) → c < length l.arcs → end_of b (arc_at l.arcs c) ≡ k → end_of (not b) (arc_at l.arcs c) ≢ j) → weight_along l b take k j ≡ 0
   no_weight j other = ap (λ w. cond (leb (length l.log) (died l (not b) j)) w 0) (none_by l b take k j other) ∙ cond_both (leb (length l.log) (died l (not b) j)) 0 0 (λ z. z ≡ 0) (λ e. refl) (λ e. refl)
@@ -55,7 +55,7 @@ module _ (l : Layout) (b : Bool) (k : ℕ) (take : Bool) (laid : IsLaid l) (time
     | inr high ↦ le-leb (length l.log) (until_of l c) (omega (arith, until_by b l c, ap (died l b) key, timed.room, timed.small)) ∙ sym (le-leb (length l.log) (died l (not b) (end_of (not b) (arc_at l.arcs c))) high)
   ]
 
-  items_along : (m x j r : ℕ) → x + m ≡ length l.arcs → j + r ≡ many l (not b) → IsBehind x j → IsAhead x j → items_from (is_item l b k take) (item_of l b take) x m ≡ weighted_from (weight_along l b take k) j r
+  items_along : (m x j r : ℕ) → x + m ≡ length l.arcs → j + r ≡ count_of l (not b) → IsBehind x j → IsAhead x j → items_from (is_item l b k take) (item_of l b take) x m ≡ weighted_from (weight_along l b take k) j r
   items_along zero x j r cells ends back front =
       sym (ap (weighted_from (weight_along l b take k) j) (let e : r ≡ r + 0 = omega arith in e)
       ∙ weighted_skip (weight_along l b take k) j r 0 (λ i low high. no_weight i (λ c h key same. elim (back.behind c (omega arith) h key) [ inl z ↦ absurd (omega (arith, laid.sizes (not b))) | inr z ↦ absurd (omega arith) ])))
@@ -72,7 +72,7 @@ module _ (l : Layout) (b : Bool) (k : ℕ) (take : Bool) (laid : IsLaid l) (time
       lx : x < length l.arcs
       lx = omega arith
 
-      here : end_of b (arc_at l.arcs x) ≡ k → ((i n : ℕ) → i + n ≡ many l (not b) → IsBehind (suc x) i → IsAhead (suc x) i → items_from (is_item l b k take) (item_of l b take) (suc x) m ≡ weighted_from (weight_along l b take k) i n) → items_from (is_item l b k take) (item_of l b take) x (suc m) ≡ weighted_from (weight_along l b take k) j r
+      here : end_of b (arc_at l.arcs x) ≡ k → ((i n : ℕ) → i + n ≡ count_of l (not b) → IsBehind (suc x) i → IsAhead (suc x) i → items_from (is_item l b k take) (item_of l b take) (suc x) m ≡ weighted_from (weight_along l b take k) i n) → items_from (is_item l b k take) (item_of l b take) x (suc m) ≡ weighted_from (weight_along l b take k) j r
       here key go =
           let f = end_of (not b) (arc_at l.arcs x) in
           let w = weight_of take (arc_at l.arcs x) in
@@ -105,10 +105,10 @@ module _ (l : Layout) (b : Bool) (k : ℕ) (take : Bool) (laid : IsLaid l) (time
           ∙ ap (λ z. weighted_from (weight_along l b take k) z (suc (r - (f - j) - 1))) (let e : j + (f - j) ≡ f = omega (arith, bounds.0) in e))
 
   -- what the walk from the head on has to give
-  pub walk_along : k < many l b → left_from l b k take (suc (head_of l b k)) ≡ weighted (many l (not b)) (weight_along l b take k)
+  pub walk_along : k < count_of l b → left_from l b k take (suc (head_of l b k)) ≡ weighted (count_of l (not b)) (weight_along l b take k)
   walk_along range =
       let head = laid.heads b k range in
-      items_along (length l.arcs - suc (head_of l b k)) (suc (head_of l b k)) 0 (many l (not b)) (omega (arith, head.below)) (zero-add (many l (not b)))
+      items_along (length l.arcs - suc (head_of l b k)) (suc (head_of l b k)) 0 (count_of l (not b)) (omega (arith, head.below)) (zero-add (count_of l (not b)))
       (record {
         behind = λ c low h key. elim (cases_eq c (head_of l b k)) [
           | inl e ↦ inl (ap (λ c. end_of (not b) (arc_at l.arcs c)) e ∙ head.far)
@@ -122,7 +122,7 @@ module _ (l : Layout) (b : Bool) (k : ℕ) (take : Bool) (laid : IsLaid l) (time
       })
 
 -- what is left at the first cell after the head
-pub walk_starts : (l : Layout) (b : Bool) (k : ℕ) (take : Bool) (h x : ℕ) → IsLaid l → IsTimed l → k < many l b → died l b k ≡ none → h ≡ head_of l b k → IsNextAt (side l.arcs b) (side l.arcs (not b)) (times_of l) (length l.log) h x → left l b k take x ≡ weighted (many l (not b)) (weight_along l b take k)
+pub walk_starts : (l : Layout) (b : Bool) (k : ℕ) (take : Bool) (h x : ℕ) → IsLaid l → IsTimed l → k < count_of l b → died l b k ≡ none → h ≡ head_of l b k → IsNextAt (side l.arcs b) (side l.arcs (not b)) (times_of l) (length l.log) h x → left l b k take x ≡ weighted (count_of l (not b)) (weight_along l b take k)
 walk_starts l b k take h x laid timed range live head f =
     let small : k < none = omega (arith, laid.sizes b) in
     let P : ℕ → Type 0 = λ h. IsNextAt (side l.arcs b) (side l.arcs (not b)) (times_of l) (length l.log) h x in
@@ -153,14 +153,14 @@ weighted_same n m f h e same =
     ∙ ap (λ n. weighted n h) e
 
 -- the walk round a live transition
-pub along_trans : (base : Base) (l : Layout) (take : Bool) (t : ℕ) → IsTimed l → t < length l.trans → died l false t ≡ none → weighted (many l true) (weight_along l false take t) ≡ weighted (length (now_of base l).places) (weight_in (now_of base l) take t)
+pub along_trans : (base : Base) (l : Layout) (take : Bool) (t : ℕ) → IsTimed l → t < length l.trans → died l false t ≡ none → weighted (count_of l true) (weight_along l false take t) ≡ weighted (length (now_of base l).places) (weight_in (now_of base l) take t)
 along_trans base l take t timed inside live =
     weighted_same (length l.places) (length (now_of base l).places) (weight_along l false take t) (weight_in (now_of base l) take t)
     (sym (length-map-range_with_len (place_of (length l.trans) (table_at l (length l.log))) 0 (length l.places)))
     (λ p h. sym (weight_now base l take t p h inside ∙ ap (λ z. cond (leb (length l.log) (died l true p)) (cond z (weight l.arcs take p t) 0) 0) (alive l false t timed live)))
 
 -- the walk round a live place
-pub along_place : (base : Base) (l : Layout) (take : Bool) (p : ℕ) → IsTimed l → p < length l.places → died l true p ≡ none → weighted (many l false) (weight_along l true take p) ≡ weighted (length (now_of base l).trans) (λ t. weight_in (now_of base l) take t p)
+pub along_place : (base : Base) (l : Layout) (take : Bool) (p : ℕ) → IsTimed l → p < length l.places → died l true p ≡ none → weighted (count_of l false) (weight_along l true take p) ≡ weighted (length (now_of base l).trans) (λ t. weight_in (now_of base l) take t p)
 along_place base l take p timed there live =
     weighted_same (length l.trans) (length (now_of base l).trans) (weight_along l true take p) (λ t. weight_in (now_of base l) take t p)
     (sym (length-map-range_with_len (trans_of l base.names (length l.log)) 0 (length l.trans)))

@@ -8,7 +8,7 @@ use Rattle.stg_edit.specs.declared.links.Link.{Link}
 use Rattle.stg_edit.specs.Ring.{IsNext}
 use Rattle.stg_edit.specs.Times.{IsHeld, frame_at}
 use Rattle.stg_edit.specs.Links.{no_link, IsOn}
-use Rattle.stg_edit.specs.Layout.{none, no_arc, arc_at, many, died, side, times_of, end_of, IsAfter, IsLaid, IsTimed, IsHead}
+use Rattle.stg_edit.specs.Layout.{none, no_arc, arc_at, count_of, died, side, times_of, end_of, IsAfter, IsLaid, IsTimed, IsHead}
 use Rattle.stg_edit.specs.Bare.{trans_head, lone_link, bare}
 use Rattle.stg_edit.specs.Drafting.{weight}
 use Rattle.stg_edit.proofs.Rings.{stop_head}
@@ -21,7 +21,7 @@ module _ (T P A : ℕ) (small : T + P + A < none) where
   cells : length (bare T P A).arcs ≡ T
   cells = length-map-range_with_len trans_head 0 T
 
-  many_bare : (b : Bool) → many (bare T P A) b ≤ T
+  many_bare : (b : Bool) → count_of (bare T P A) b ≤ T
   many_bare true = omega arith
   many_bare false = omega (arith, length-replicate T none)
 
@@ -32,7 +32,7 @@ module _ (T P A : ℕ) (small : T + P + A < none) where
     | inr h ↦ get_or_past (replicate T none) k none (omega (arith, length-replicate T none))
   ]
 
-  head : (b : Bool) (k : ℕ) → k < many (bare T P A) b → IsHead (bare T P A) b k
+  head : (b : Bool) (k : ℕ) → k < count_of (bare T P A) b → IsHead (bare T P A) b k
   head true k h = absurd (omega arith)
   head false k h =
       let lt : k < T = omega (arith, many_bare false) in
@@ -58,7 +58,7 @@ module _ (T P A : ℕ) (small : T + P + A < none) where
       }
       apart false c d low h k = absurd (omega (arith, ap (end_of false) (head_at c (omega arith)), ap (end_of false) (head_at d h)))
 
-      bound : (b : Bool) (c : ℕ) → c < T → (end_of b (arc_at (bare T P A).arcs c) ≡ none) ⊎ (end_of b (arc_at (bare T P A).arcs c) < many (bare T P A) b)
+      bound : (b : Bool) (c : ℕ) → c < T → (end_of b (arc_at (bare T P A).arcs c) ≡ none) ⊎ (end_of b (arc_at (bare T P A).arcs c) < count_of (bare T P A) b)
       bound true c h = inl (ap (end_of true) (head_at c h))
       bound false c h = inr (omega (arith, ap (end_of false) (head_at c h), length-replicate T none))
 
@@ -91,8 +91,8 @@ module _ (T P A : ℕ) (small : T + P + A < none) where
       off c h part = false≢true (sym part ∙ ap (λ x. eqb x.place none) (head_at c h))
 
   -- each transition's head is alone in its ring
-  pub cols_bare : IsHeld (side (bare T P A).arcs false) (side (bare T P A).arcs true) (times_of (bare T P A)) (map lone_link (range_with_len 0 T))
-  cols_bare = record {
+  pub columns_bare : IsHeld (side (bare T P A).arcs false) (side (bare T P A).arcs true) (times_of (bare T P A)) (map lone_link (range_with_len 0 T))
+  columns_bare = record {
     rings = record {
       forward = λ c l o. let h : c < T = omega (arith, o.below, cells) in rw (ap (λ x. x.next) (link c h)) (alone c h o);
       back = λ c l o. let h : c < T = omega (arith, o.below, cells) in rw (ap (λ x. x.prev) (link c h)) (alone c h o);

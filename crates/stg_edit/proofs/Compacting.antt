@@ -19,7 +19,7 @@ use Rattle.stg_net.specs.Ordered.{new_number, numbers_where}
 use Rattle.stg_net.proofs.Buckets.{numbers_where-filter, length-listed_below}
 use Rattle.stg_net.proofs.Maps.{AllPairs-map}
 use Rattle.stg_edit.specs.Editing.{Editing, name_in}
-use Rattle.stg_edit.specs.Counted.{live_places, arcs_at, count_arcs}
+use Rattle.stg_edit.specs.Counted.{live_places, count_arcs_at, count_arcs}
 use Rattle.stg_edit.specs.Walks.{weighted}
 use Rattle.stg_edit.proofs.Counted.{sum_more}
 use Rattle.stg_edit.proofs.Grown.{weighted_more}
@@ -247,8 +247,8 @@ pub all_of : (P : ℕ → Type 0) (xs ys : List ℕ) → xs ≡ ys → All P ys 
 all_of P xs ys same all = subst (All P) (sym same) all
 
 -- the lists, as the calls give them
-pub listed_from : (e : Editing) (own : List ℕ) (n : NetLists) (shown : List Signal) (kept trans places rows cols : List ℕ) → kept ≡ known_signals e.signals e.now → trans ≡ live_trans e.now → places ≡ live_places e.now → rows ≡ live_places e.now → cols ≡ live_trans e.now → n.signals ≡ map (signal_shown e.signals own) kept → shown ≡ n.signals → map (λ x. Some (name_in shown x)) n.trans ≡ map (full_name_at e.now) trans → All (λ (x : TransName). x.signal < length shown) n.trans → n.tokens ≡ map (tokens_at e.now) places → n.arcs ≡ all_arcs e.now rows cols → IsListed e own n
-listed_from e own n shown kept trans places rows cols k t p r c signals same names there tokens arcs = record {
+pub listed_from : (e : Editing) (own : List ℕ) (n : NetLists) (shown : List Signal) (kept trans places rows columns : List ℕ) → kept ≡ known_signals e.signals e.now → trans ≡ live_trans e.now → places ≡ live_places e.now → rows ≡ live_places e.now → columns ≡ live_trans e.now → n.signals ≡ map (signal_shown e.signals own) kept → shown ≡ n.signals → map (λ x. Some (name_in shown x)) n.trans ≡ map (full_name_at e.now) trans → All (λ (x : TransName). x.signal < length shown) n.trans → n.tokens ≡ map (tokens_at e.now) places → n.arcs ≡ all_arcs e.now rows columns → IsListed e own n
+listed_from e own n shown kept trans places rows columns k t p r c signals same names there tokens arcs = record {
   signals_are = signals ∙ ap (map (signal_shown e.signals own)) k;
   names_are = (λ i. map (λ x. Some (name_in (sym same i) x)) n.trans) ∙ names ∙ ap (map (full_name_at e.now)) t;
   there = subst (λ (xs : List Signal). All (λ (x : TransName). x.signal < length xs) n.trans) same there;
@@ -298,7 +298,7 @@ count_live f h q (suc n) dead =
 pub count_listed : (g : Graph) → IsBare g → length (all_arcs g (live_places g) (live_trans g)) ≡ count_arcs g
 count_listed g bare =
     let h : ℕ → ℕ → ℕ = λ p t. min 1 (takes g t p) + min 1 (gives g t p) in
-    let in_row : (p q : ℕ) → length (row_arcs g (live_trans g) p q) ≡ arcs_at g p =
+    let in_row : (p q : ℕ) → length (row_arcs g (live_trans g) p q) ≡ count_arcs_at g p =
     λ p q.
     length-listed_below (λ u. arcs_between g p (slice_index (live_trans g) u) q u) (length (live_trans g))
     ∙ (λ i. sum_by (λ u. between_count g p (slice_index (live_trans g) u) q u i) (range_with_len 0 (length (live_trans g))))
@@ -306,7 +306,7 @@ count_listed g bare =
     ∙ sym (count_live (λ t. takes g t p) (λ t. gives g t p) (λ t. is_some (full_name_at g t)) (length g.trans) (λ t low gone. bare t p low gone)) in
     length-listed_below (λ q. row_arcs g (live_trans g) (slice_index (live_places g) q) q) (length (live_places g))
     ∙ (λ i. sum_by (λ q. in_row (slice_index (live_places g) q) q i) (range_with_len 0 (length (live_places g))))
-    ∙ sum_at (arcs_at g) (live_places g)
+    ∙ sum_at (count_arcs_at g) (live_places g)
 
 pub listed_count : (e : Editing) (own : List ℕ) (n : NetLists) → IsFit e → IsListed e own n → length n.arcs ≡ count_arcs e.now
 listed_count e own n fit l = ap length l.arcs_are ∙ count_listed e.now fit.bare

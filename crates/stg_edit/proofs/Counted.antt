@@ -1,5 +1,5 @@
 -- Counts over the numbers of places.
-use Rattle.std.proofs.Common.{◌≡◌, ◌≤◌, ◌<◌, ◌+◌, ◌++◌, ◌∷◌, [], ℕ, zero, suc, Bool, true, false, cond, filter, length, ap, ◌∙◌, refl, zero-add, arith}
+use Rattle.std.proofs.Common.{◌^◌, ◌≡◌, ◌≤◌, ◌<◌, ◌+◌, ◌++◌, ◌∷◌, [], ℕ, zero, suc, Bool, true, false, cond, filter, length, ap, ◌∙◌, refl, zero-add, arith}
 use Rattle.std.specs.List.{range_with_len, sum_by}
 use Rattle.std.proofs.lemmas.List.{length-append}
 use Rattle.std.proofs.lemmas.List.Elements.{filter-append}
@@ -36,5 +36,5 @@ pub weighted_few : (n : ℕ) (w : ℕ → ℕ) → length (weighted n w) ≤ n
 weighted_few zero w = omega arith
 weighted_few (suc n) w = omega (arith, ap (λ k. length (weighted k w)) (let e : suc n ≡ n + 1 = omega arith in e), weighted_more n w, weighted_few n w)
 
-pub few_trans : (base : Base) (l : Layout) → IsLaid l → length (now_of base l).trans < 4294967296
-few_trans base l laid = omega (arith, length-map-range_with_len (trans_of l base.names (length l.log)) 0 (length l.trans), laid.sizes false)
+pub few_numbers : (base : Base) (l : Layout) → IsLaid l → length (now_of base l).trans < 2 ^ 32
+few_numbers base l laid = omega (arith, length-map-range_with_len (trans_of l base.names (length l.log)) 0 (length l.trans), laid.sizes false)

@@ -10,7 +10,7 @@ use Rattle.stg_edit.specs.Table.{Table, place_of, places_of}
 use Rattle.stg_edit.proofs.Tables.{same_map, map_but}
 use Rattle.stg_edit.proofs.Lists.{map-after}
 use Rattle.stg_edit.specs.declared.arena.Gone.{Gone}
-use Rattle.stg_edit.specs.Layout.{Layout, none, spot_at, died, many, gone_at, IsTimed, IsGone}
+use Rattle.stg_edit.specs.Layout.{Layout, none, spot_at, died, count_of, gone_at, IsTimed, IsGone}
 use Rattle.stg_edit.specs.Drafting.{weight, weight_at, table_at, Base, trans_of, draft_at, now_of}
 use Rattle.stg_edit.specs.Editing.{IsNode, without_node}
 use Rattle.stg_edit.specs.View.{spare_of}
@@ -79,8 +79,8 @@ draft_without_trans base k l l' n g t =
     ]
 
 -- a live place of the draft is a live node
-pub live_place : (base : Base) (p : ℕ) (l : Layout) → IsTimed l → is_some (place_at (now_of base l) p) ≡ true → (p < many l true) × (died l true p ≡ none)
-live_place base p l t live = elim (cases_lt p (length l.places)) [
+pub place_lives : (base : Base) (p : ℕ) (l : Layout) → IsTimed l → is_some (place_at (now_of base l) p) ≡ true → (p < count_of l true) × (died l true p ≡ none)
+place_lives base p l t live = elim (cases_lt p (length l.places)) [
   | inr past ↦ absurd (false≢true (rw (get_or_past (places_of (length l.places) (length l.trans) (table_at l (length l.log))) p None (rw length-map-range_with_len past)) at live))
   | inl h ↦ (
     h,
@@ -91,8 +91,8 @@ live_place base p l t live = elim (cases_lt p (length l.places)) [
   )
 ]
 
-pub live_trans : (base : Base) (u : ℕ) (l : Layout) → IsTimed l → is_some (full_name_at (now_of base l) u) ≡ true → (u < many l false) × (died l false u ≡ none)
-live_trans base u l t live = elim (cases_lt u (length l.trans)) [
+pub trans_lives : (base : Base) (u : ℕ) (l : Layout) → IsTimed l → is_some (full_name_at (now_of base l) u) ≡ true → (u < count_of l false) × (died l false u ≡ none)
+trans_lives base u l t live = elim (cases_lt u (length l.trans)) [
   | inr past ↦ absurd (false≢true (rw (get_or_past (map (trans_of l base.names (length l.log)) (range_with_len 0 (length l.trans))) u None (rw length-map-range_with_len past)) at live))
   | inl h ↦ (
     h,
@@ -104,9 +104,9 @@ live_trans base u l t live = elim (cases_lt u (length l.trans)) [
 ]
 
 -- a live node of the draft is a live node
-pub live_node : (b : Bool) (base : Base) (k : ℕ) (l : Layout) → IsTimed l → IsNode b (now_of base l) k → (k < many l b) × (died l b k ≡ none)
-live_node true base k l t live = live_place base k l t live
-live_node false base k l t live = live_trans base k l t live
+pub node_lives : (b : Bool) (base : Base) (k : ℕ) (l : Layout) → IsTimed l → IsNode b (now_of base l) k → (k < count_of l b) × (died l b k ≡ none)
+node_lives true base k l t live = place_lives base k l t live
+node_lives false base k l t live = trans_lives base k l t live
 
 -- the draft after a node went
 pub draft_without : (b : Bool) (base : Base) (k : ℕ) (l l' : Layout) (n : ℕ) → IsGone b k l l' → IsTimed l → draft_at base l' (length l.log + 1) n ≡ without_node b (draft_at base l (length l.log) n) k
@@ -114,10 +114,10 @@ draft_without true base k l l' n g t = draft_without_place base k l l' n g t
 draft_without false base k l l' n g t = draft_without_trans base k l l' n g t
 
 -- no more can have gone than there are, and k hasn't
-pub log_short : (l : Layout) (b : Bool) (k : ℕ) → IsTimed l → k < many l b → died l b k ≡ none → length l.log < many l true + many l false
+pub log_short : (l : Layout) (b : Bool) (k : ℕ) → IsTimed l → k < count_of l b → died l b k ≡ none → length l.log < count_of l true + count_of l false
 log_short l b k t range live = omega (
   arith,
-  at_most_below (λ s. code (node s).is_place (node s).node) (length l.log + 1) (many l true + many l false)
+  at_most_below (λ s. code (node s).is_place (node s).node) (length l.log + 1) (count_of l true + count_of l false)
       (λ s h. code_below (node s).is_place (node s).node (inside s h))
       (λ s r low h e. differ s r low h (code_same (node r).is_place (node s).is_place (node r).node (node s).node (inside r h) (inside s (omega arith)) e)),
 )
@@ -129,18 +129,18 @@ log_short l b k t range live = omega (
     node : ℕ → Gone
     node s = cond (ltb s (length l.log)) (gone_at l s) (record { is_place = b; node = k; cells = 0 })
 
-    code_below : (c : Bool) (j : ℕ) → j < many l c → code c j < many l true + many l false
+    code_below : (c : Bool) (j : ℕ) → j < count_of l c → code c j < count_of l true + count_of l false
     code_below true j h = omega arith
     code_below false j h = omega arith
 
     -- when it went, and the one that hasn't comes last
-    code_same : (c d : Bool) (i j : ℕ) → i < many l c → j < many l d → code c i ≡ code d j → died l c i ≡ died l d j
+    code_same : (c d : Bool) (i j : ℕ) → i < count_of l c → j < count_of l d → code c i ≡ code d j → died l c i ≡ died l d j
     code_same true true i j hi hj e = ap (died l true) e
     code_same true false i j hi hj e = absurd (omega arith)
     code_same false true i j hi hj e = absurd (omega arith)
     code_same false false i j hi hj e = ap (died l false) (omega arith)
 
-    inside : (s : ℕ) → s < length l.log + 1 → (node s).node < many l (node s).is_place
+    inside : (s : ℕ) → s < length l.log + 1 → (node s).node < count_of l (node s).is_place
     inside s h = elim (cases_lt s (length l.log)) [
       | inl low ↦ rw (lt-ltb s (length l.log) low) (t.in_range s low)
       | inr high ↦ rw (le-ltb s (length l.log) high) range

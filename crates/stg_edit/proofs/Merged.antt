@@ -1,5 +1,5 @@
 -- The loop that merges two rows.
-use Rattle.std.proofs.Common.{◌≡◌, ◌≢◌, ◌<◌, ◌≤◌, ◌+◌, ◌-◌, ℕ, Bool, true, false, cond, min, length, eqb, leb, eq-eqb, subst, sym, ap, ◌∙◌, refl, inl, inr, arith}
+use Rattle.std.proofs.Common.{◌^◌, ◌≡◌, ◌≢◌, ◌<◌, ◌≤◌, ◌+◌, ◌-◌, ℕ, Bool, true, false, cond, min, length, eqb, leb, eq-eqb, subst, sym, ap, ◌∙◌, refl, inl, inr, arith}
 use Rattle.std.proofs.lemmas.Bool.{cases_eq, cases_lt, cond_both, ne_eqb, le-leb}
 use Rattle.stg_edit.specs.declared.arena.Arc.{Arc}
 use Rattle.stg_edit.specs.Times.{IsNextAt}
@@ -75,7 +75,7 @@ pub record IsAtWork (l0 l : Layout) (p q u : ℕ) : Type 0 where
   pub live : died l false u ≡ none
   pub live_first : died l true p ≡ none
   pub live_second : died l true q ≡ none
-  pub sums : (take : Bool) → weight l.arcs take p u + weight l.arcs take q u < 4294967296
+  pub sums : (take : Bool) → weight l.arcs take p u + weight l.arcs take q u < 2 ^ 32
 
 at_far : (l : Layout) (p x u : ℕ) → IsLaid l → IsTimed l → IsWalking l true p x → far l x ≡ u → u ≢ none → (u < length l.trans) × (died l false u ≡ none)
 at_far l p x u laid t w e arc =
@@ -100,7 +100,7 @@ at_work l0 l p q t u x y laid timed can way arc =
     }
 
 -- what stands at the cells x and y is what the rows have at u together, and fits 32 bits
-pub shares_here : (l0 l : Layout) (p q t u x y : ℕ) (take : Bool) → IsLaid l → IsTimed l → CanJoin l0 p q t → IsOnTheWay l0 l p q t (length l0.places - 1) u x y → u ≢ none → (share_at l take x u + share_at l take y u ≡ weight l.arcs take p u + weight l.arcs take q u) × (share_at l take x u + share_at l take y u < 4294967296)
+pub shares_here : (l0 l : Layout) (p q t u x y : ℕ) (take : Bool) → IsLaid l → IsTimed l → CanJoin l0 p q t → IsOnTheWay l0 l p q t (length l0.places - 1) u x y → u ≢ none → (share_at l take x u + share_at l take y u ≡ weight l.arcs take p u + weight l.arcs take q u) × (share_at l take x u + share_at l take y u < 2 ^ 32)
 shares_here l0 l p q t u x y take laid timed can way arc =
     let work = at_work l0 l p q t u x y laid timed can way arc in
     let first = row_here l p u x take laid work.small work.live way.joining.first in

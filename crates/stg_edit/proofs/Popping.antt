@@ -6,7 +6,7 @@ use Rattle.stg_edit.specs.declared.arena.Arc.{Arc}
 use Rattle.stg_edit.specs.declared.arena.Spot.{Spot}
 use Rattle.stg_edit.specs.declared.links.Link.{Link}
 use Rattle.stg_edit.specs.Times.{IsHeld, IsSameBelow}
-use Rattle.stg_edit.specs.Layout.{Layout, none, no_arc, no_spot, spot_at, arc_at, end_of, side, died, many, head_of, gone_at, times_of, IsHead, IsLaid, IsTimed, IsPushed, EndsInArc}
+use Rattle.stg_edit.specs.Layout.{Layout, none, no_arc, no_spot, spot_at, arc_at, end_of, side, died, count_of, head_of, gone_at, times_of, IsHead, IsLaid, IsTimed, IsPushed, EndsInArc}
 use Rattle.stg_edit.specs.Later.{IsLater}
 use Rattle.stg_edit.specs.Popping.{EndsInPlace, IsHeadPushed, IsOneMore, CanPop, IsPopping}
 use Rattle.stg_edit.proofs.Pushing.{push_length, push_old, push_new, gone_same, more_of}
@@ -99,11 +99,11 @@ module _ (a : Arc) (s : Spot) (l l' : Layout) (q : IsHeadPushed a s l l') where
         sizes = sizes;
       }
     where
-      sizes : (b : Bool) → many l b ≤ none
+      sizes : (b : Bool) → count_of l b ≤ none
       sizes true = omega (arith, more, laid.sizes true)
       sizes false = omega (arith, ap length q.trans, laid.sizes false)
 
-      bounded : (b : Bool) (c : ℕ) → c < length l.arcs → (end_of b (arc_at l.arcs c) ≡ none) ⊎ (end_of b (arc_at l.arcs c) < many l b)
+      bounded : (b : Bool) (c : ℕ) → c < length l.arcs → (end_of b (arc_at l.arcs c) ≡ none) ⊎ (end_of b (arc_at l.arcs c) < count_of l b)
       bounded true c h =
           let long = push_length a l l' q.pushed in
           let o = push_old a l l' c q.pushed h in
@@ -127,7 +127,7 @@ module _ (a : Arc) (s : Spot) (l l' : Layout) (q : IsHeadPushed a s l l') where
           let f : arc_at l'.arcs (head_of l' b k) ≡ arc_at l.arcs (head_of l b k) = ap (arc_at l'.arcs) same ∙ push_old a l l' (head_of l b k) q.pushed low in
           record { below = low; far = sym (ap (end_of (not b)) f) ∙ h.far; key = sym (ap (end_of b) f) ∙ h.key }
 
-      heads : (b : Bool) (k : ℕ) → k < many l b → IsHead l b k
+      heads : (b : Bool) (k : ℕ) → k < count_of l b → IsHead l b k
       heads true k r =
           let h = laid.heads true k (omega (arith, more)) in
           let same : head_of l' true k ≡ head_of l true k = ap (λ xs. (spot_at xs k).head) q.places ∙ ap (λ x. x.head) (get_or_append_left l.places (s ∷ []) no_spot k r) in
@@ -154,19 +154,19 @@ module _ (a : Arc) (s : Spot) (l l' : Layout) (q : IsHeadPushed a s l l') where
       }
     where
       -- the last place hasn't gone
-      range : (r : ℕ) → r < length l.log → (b : Bool) → (gone_at l r).is_place ≡ b → (gone_at l r).node < many l (gone_at l r).is_place
+      range : (r : ℕ) → r < length l.log → (b : Bool) → (gone_at l r).is_place ≡ b → (gone_at l r).node < count_of l (gone_at l r).is_place
       range r h true e =
           let g = gone_same a l l' r q.pushed h in
           let logs = ap length q.pushed.log in
-          let inside : (gone_at l r).node < length l'.places = omega (arith, t.in_range r (omega arith), ap (λ x. x.node) g, ap (λ x. many l' x.is_place) g, ap (many l') e) in
+          let inside : (gone_at l r).node < length l'.places = omega (arith, t.in_range r (omega arith), ap (λ x. x.node) g, ap (λ x. count_of l' x.is_place) g, ap (count_of l') e) in
           let d : died l true (gone_at l r).node ≡ r = sym (q.pushed.same true (gone_at l r).node) ∙ sym (ap (λ b. died l' b (gone_at l r).node) e) ∙ sym (ap (λ x. died l' x.is_place x.node) g) ∙ t.logged r (omega arith) in
           elim (cases_eq (gone_at l r).node (length l.places)) [
             | inl z ↦ absurd (omega (arith, d, ap (died l true) z, ap (λ x. x.died) (get_or_past l.places (length l.places) no_spot (omega arith)), t.room, t.small, logs))
-            | inr z ↦ omega (arith, more, ap (many l) e)
+            | inr z ↦ omega (arith, more, ap (count_of l) e)
           ]
       range r h false e =
           let g = gone_same a l l' r q.pushed h in
-          omega (arith, t.in_range r (omega (arith, ap length q.pushed.log)), ap (λ x. x.node) g, ap (λ x. many l' x.is_place) g, ap (many l') e, ap (many l) e, ap length q.trans)
+          omega (arith, t.in_range r (omega (arith, ap length q.pushed.log)), ap (λ x. x.node) g, ap (λ x. count_of l' x.is_place) g, ap (count_of l') e, ap (count_of l) e, ap length q.trans)
 
   module _ (links new : List Link) (laid : IsLaid l') (t : IsTimed l) where
     pub rows_unplace : IsHeld (side l'.arcs true) (side l'.arcs false) (times_of l') links → length new ≡ length l.arcs → IsSameBelow (length l.arcs) links new → IsHeld (side l.arcs true) (side l.arcs false) (times_of l) new
@@ -175,8 +175,8 @@ module _ (a : Arc) (s : Spot) (l l' : Layout) (q : IsHeadPushed a s l l') where
         (more_of a l l' true q.pushed laid t) held long same
         (ap (λ x. eqb x.trans none) (push_new a l l' q.pushed) ∙ eq-eqb a.trans none q.head)
 
-    pub cols_unplace : IsHeld (side l'.arcs false) (side l'.arcs true) (times_of l') links → length new ≡ length l.arcs → IsSameBelow (length l.arcs) links new → IsHeld (side l.arcs false) (side l.arcs true) (times_of l) new
-    cols_unplace held long same =
+    pub columns_unplace : IsHeld (side l'.arcs false) (side l'.arcs true) (times_of l') links → length new ≡ length l.arcs → IsSameBelow (length l.arcs) links new → IsHeld (side l.arcs false) (side l.arcs true) (times_of l) new
+    columns_unplace held long same =
         shrunk_apart (side l.arcs false) (side l.arcs true) (side l'.arcs false) (side l'.arcs true) (times_of l) (times_of l') (length l.arcs) links new
         (more_of a l l' false q.pushed laid t) held long same
         (ap (λ x. eqb x.trans none) (push_new a l l' q.pushed) ∙ eq-eqb a.trans none q.head)
@@ -214,7 +214,7 @@ module _ (n cells : ℕ) (l : Layout) (laid : IsLaid l) (can : CanPop n cells l)
     late = λ s h. omega (arith, can.late s h);
   }
     where
-      inside : (b : Bool) → end_of b (arc_at l.arcs (length l.arcs - 1)) < many l b
+      inside : (b : Bool) → end_of b (arc_at l.arcs (length l.arcs - 1)) < count_of l b
       inside true = elim (laid.bounded true (length l.arcs - 1) (omega arith)) [ inl e ↦ absurd (omega (arith, (can.newer (length l.arcs - 1) (omega arith) (omega arith)).1)) | inr e ↦ e ]
       inside false = elim (laid.bounded false (length l.arcs - 1) (omega arith)) [ inl e ↦ absurd (arc e) | inr e ↦ e ]
 
@@ -276,8 +276,8 @@ pop_on n cells l l' l'' w low t one = elim one [
 pub popped_places : (n cells : ℕ) (l : Layout) → IsLaid l → CanPop n cells l → length l.arcs ≡ cells → length l.places ≤ n
 popped_places n cells l laid can all = elim (cases_lt n (length l.places)) [
   | inr few ↦ few
-  | inl many ↦
-      let h = laid.heads true n many in
+  | inl count_of ↦
+      let h = laid.heads true n count_of in
       elim (can.older (head_of l true n) (omega (arith, h.below))) [
         | inl e ↦ absurd (omega (arith, h.key, laid.sizes true))
         | inr e ↦ absurd (omega (arith, h.key))

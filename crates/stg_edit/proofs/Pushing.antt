@@ -5,7 +5,7 @@ use Rattle.std.proofs.lemmas.List.{get_or_append_left, get_or-append_right, get_
 use Rattle.stg_edit.specs.declared.arena.Arc.{Arc}
 use Rattle.stg_edit.specs.declared.arena.Spot.{Spot}
 use Rattle.stg_edit.specs.Ring.{HasHeads}
-use Rattle.stg_edit.specs.Layout.{Layout, none, no_arc, no_spot, arc_at, spot_at, end_of, side, died, many, head_of, head_arc, gone_at, times_of, IsHead, IsAfter, IsLaid, IsTimed, IsPushed, IsPushedArc, IsPushedPlace}
+use Rattle.stg_edit.specs.Layout.{Layout, none, no_arc, no_spot, arc_at, spot_at, end_of, side, died, count_of, head_of, head_arc, gone_at, times_of, IsHead, IsAfter, IsLaid, IsTimed, IsPushed, IsPushedArc, IsPushedPlace}
 use Rattle.stg_edit.proofs.Marks.{depth_now}
 use Rattle.stg_edit.proofs.Steps.{crossed_of}
 use Rattle.stg_edit.proofs.Growing.{IsMore}
@@ -44,7 +44,7 @@ head_kept a l l' b k p head h =
     let e : arc_at l'.arcs (head_of l' b k) ≡ arc_at l.arcs (head_of l b k) = ap (arc_at l'.arcs) head ∙ push_old a l l' (head_of l b k) p h.below in
     record { below = omega (arith, head, h.below, push_length a l l' p); far = ap (end_of (not b)) e ∙ h.far; key = ap (end_of b) e ∙ h.key }
 
-bounded_push : (a : Arc) (l l' : Layout) (b : Bool) (c : ℕ) → IsPushed a l l' → IsLaid l → many l b ≤ many l' b → (end_of b a ≡ none) ⊎ (end_of b a < many l' b) → c < length l'.arcs → (end_of b (arc_at l'.arcs c) ≡ none) ⊎ (end_of b (arc_at l'.arcs c) < many l' b)
+bounded_push : (a : Arc) (l l' : Layout) (b : Bool) (c : ℕ) → IsPushed a l l' → IsLaid l → count_of l b ≤ count_of l' b → (end_of b a ≡ none) ⊎ (end_of b a < count_of l' b) → c < length l'.arcs → (end_of b (arc_at l'.arcs c) ≡ none) ⊎ (end_of b (arc_at l'.arcs c) < count_of l' b)
 bounded_push a l l' b c p laid more new h = elim (cases_eq c (length l.arcs)) [
   | inl e ↦ rw e (rw (push_new a l l' p) new)
   | inr e ↦ let lc : c < length l.arcs = omega (arith, push_length a l l' p) in rw (push_old a l l' c p lc) (elim (laid.bounded b c lc) [ inl z ↦ inl z | inr z ↦ inr (omega arith) ])
@@ -66,7 +66,7 @@ laid_arc a l l' q laid room =
       sizes = λ b. omega (arith, many_same b, laid.sizes b);
     }
   where
-    many_same : (b : Bool) → many l' b ≡ many l b
+    many_same : (b : Bool) → count_of l' b ≡ count_of l b
     many_same true = ap length q.places
     many_same false = ap length q.trans
 
@@ -93,19 +93,19 @@ laid_place s l l' q laid room space =
     places_more : length l'.places ≡ length l.places + 1
     places_more = ap length q.places ∙ length-append l.places (s ∷ []) ∙ omega arith
 
-    many_more : (b : Bool) → many l b ≤ many l' b
+    many_more : (b : Bool) → count_of l b ≤ count_of l' b
     many_more true = omega (arith, places_more)
     many_more false = omega (arith, ap length q.trans)
 
-    new : (b : Bool) → (end_of b (head_arc l) ≡ none) ⊎ (end_of b (head_arc l) < many l' b)
+    new : (b : Bool) → (end_of b (head_arc l) ≡ none) ⊎ (end_of b (head_arc l) < count_of l' b)
     new true = inr (omega (arith, places_more))
     new false = inl refl
 
-    small : (b : Bool) → many l' b ≤ none
+    small : (b : Bool) → count_of l' b ≤ none
     small true = omega (arith, places_more, laid.most_places)
     small false = omega (arith, ap length q.trans, laid.sizes false)
 
-    head : (b : Bool) (k : ℕ) → k < many l' b → IsHead l' b k
+    head : (b : Bool) (k : ℕ) → k < count_of l' b → IsHead l' b k
     head true k h = elim (cases_eq k (length l.places)) [
       | inl e ↦ rw e (let at : (spot_at l'.places (length l.places)).head ≡ length l.arcs =
           ap (λ xs. (spot_at xs (length l.places)).head) q.places
@@ -119,12 +119,12 @@ laid_place s l l' q laid room space =
     ]
     head false k h = head_kept (head_arc l) l l' false k q.pushed refl (laid.heads false k (omega (arith, ap length q.trans)))
 
-pub timed_push : (a : Arc) (l l' : Layout) → IsPushed a l l' → IsTimed l → ((b : Bool) → many l b ≤ many l' b) → IsTimed l'
+pub timed_push : (a : Arc) (l l' : Layout) → IsPushed a l l' → IsTimed l → ((b : Bool) → count_of l b ≤ count_of l' b) → IsTimed l'
 timed_push a l l' p t more =
     let logs = ap length p.log in
     let long = push_length a l l' p in
     record {
-      in_range = λ s h. let e = gone_same a l l' s p (omega arith) in omega (arith, ap (λ x. x.node) e, ap (λ x. many l' x.is_place) e, more (gone_at l s).is_place, t.in_range s (omega arith));
+      in_range = λ s h. let e = gone_same a l l' s p (omega arith) in omega (arith, ap (λ x. x.node) e, ap (λ x. count_of l' x.is_place) e, more (gone_at l s).is_place, t.in_range s (omega arith));
       logged = λ s h. let e = gone_same a l l' s p (omega arith) in ap (λ x. died l' x.is_place x.node) e ∙ p.same (gone_at l s).is_place (gone_at l s).node ∙ t.logged s (omega arith);
       node = λ b k h. let d = p.same b k in let low : died l b k < length l.log = omega arith in ap (λ s. (gone_at l' s).node) d ∙ ap (λ x. x.node) (gone_same a l l' (died l b k) p low) ∙ t.node b k low;
       kind = λ b k h. let d = p.same b k in let low : died l b k < length l.log = omega arith in ap (λ s. (gone_at l' s).is_place) d ∙ ap (λ x. x.is_place) (gone_same a l l' (died l b k) p low) ∙ t.kind b k low;
@@ -155,10 +155,10 @@ more_of a l l' b p laid t =
       heads = let P : ℕ → Type 0 = λ n. HasHeads (side l'.arcs b) n in subst P long (crossed_of b l' laid).own_heads;
     }
 
-pub place_more : (s : Spot) (l l' : Layout) → IsPushedPlace s l l' → (b : Bool) → many l b ≤ many l' b
+pub place_more : (s : Spot) (l l' : Layout) → IsPushedPlace s l l' → (b : Bool) → count_of l b ≤ count_of l' b
 place_more s l l' q true = omega (arith, ap length q.places, length-append l.places (s ∷ []))
 place_more s l l' q false = omega (arith, ap length q.trans)
 
-pub arc_more : (a : Arc) (l l' : Layout) → IsPushedArc a l l' → (b : Bool) → many l b ≤ many l' b
+pub arc_more : (a : Arc) (l l' : Layout) → IsPushedArc a l l' → (b : Bool) → count_of l b ≤ count_of l' b
 arc_more a l l' q true = omega (arith, ap length q.places)
 arc_more a l l' q false = omega (arith, ap length q.trans)

@@ -1,5 +1,5 @@
 -- The draft after a contraction.
-use Rattle.std.proofs.Common.{◌≡◌, ◌≢◌, ◌<◌, ◌≤◌, ◌+◌, ◌-◌, ◌++◌, ◌∷◌, [], ℕ, Bool, List, true, false, cond, map, flat_map, filter, length, None, slice_get, All, ltb, leb, eqb, eq-eqb, subst, sym, ap, ◌∙◌, refl, inl, inr, zero-add, arith}
+use Rattle.std.proofs.Common.{◌^◌, ◌≡◌, ◌≢◌, ◌<◌, ◌≤◌, ◌+◌, ◌-◌, ◌++◌, ◌∷◌, [], ℕ, Bool, List, true, false, cond, map, flat_map, filter, length, None, slice_get, All, ltb, leb, eqb, eq-eqb, subst, sym, ap, ◌∙◌, refl, inl, inr, zero-add, arith}
 use Rattle.std.specs.List.{range_with_len}
 use Rattle.std.proofs.lemmas.Bool.{cases_lt, cases_eq, cases_Bool, ne_eqb, le-leb, lt-leb, leb-true, ltb-true, ltb-false, or_cases, or_parts}
 use Rattle.std.proofs.lemmas.List.{get_or_past}
@@ -16,12 +16,12 @@ use Rattle.stg_edit.specs.Walks.{weighted}
 use Rattle.stg_edit.specs.Later.{IsLater, HasAllCells}
 use Rattle.stg_edit.specs.Joined.{joined_weight}
 use Rattle.stg_edit.specs.Made.{pair_at, pair_arcs, CanMake, IsMade, before_at, pairs_with, pairs_of}
-use Rattle.stg_edit.specs.Hidden.{touch, IsHidden}
+use Rattle.stg_edit.specs.Hidden.{touch, IsRoundHidden}
 use Rattle.stg_edit.specs.Replacing.{arcs_of_pair, new_arcs, new_places, IsSmallPair}
 use Rattle.stg_edit.proofs.Lists.{All-flat_map}
 use Rattle.stg_edit.proofs.Marks.{log_length, gone_old, gone_new}
 use Rattle.stg_edit.proofs.Tables.{map_but, ShowsContraction, shows_contraction}
-use Rattle.stg_edit.proofs.Drafted.{same_place, live_trans}
+use Rattle.stg_edit.proofs.Drafted.{same_place, trans_lives}
 use Rattle.stg_edit.proofs.Shown.{alive, tokens_now}
 use Rattle.stg_edit.proofs.Along.{weight_in, weight_now, weighted_same, along_trans}
 use Rattle.stg_edit.proofs.Later.{later_weight, later_trans, later_gone}
@@ -138,7 +138,7 @@ can_replace base l t timed range live small places cells =
       );
     })
   where
-    sum : (take : Bool) (x : ℕ × ℕ) (v : ℕ) → IsSmallPair (now_of base l) x → weight_in (now_of base l) take v x.0 + weight_in (now_of base l) take v x.1 < 4294967296
+    sum : (take : Bool) (x : ℕ × ℕ) (v : ℕ) → IsSmallPair (now_of base l) x → weight_in (now_of base l) take v x.0 + weight_in (now_of base l) take v x.1 < 2 ^ 32
     sum true x v s = s.taken v
     sum false x v s = s.given v
 
@@ -155,7 +155,7 @@ pub may_replace : (base : Base) (t edits : ℕ) (l : Layout) (v : Editing) → n
 may_replace base t edits l v now spare timed laid roomy dummy0 places0 arcs0 small0 =
     let D : Graph → Type 0 = λ g. IsDummy g t in
     let S : Graph → Type 0 = λ g. All (IsSmallPair g) (pairs_round g t) in
-    let live = live_trans base t l timed (subst D (sym now) dummy0).live in
+    let live = trans_lives base t l timed (subst D (sym now) dummy0).live in
     let places : new_places (now_of base l) t ≤ l.place_room - length l.places = omega (arith, places0, ap (λ g. new_places g t) now, ap (λ s. s.places) spare) in
     let arcs : new_arcs (now_of base l) t ≤ l.cell_room - length l.arcs - (l.place_room - length l.places) = omega (arith, arcs0, ap (λ g. new_arcs g t) now, ap (λ s. s.arcs) spare) in
     record {
@@ -168,7 +168,7 @@ may_replace base t edits l v now spare timed laid roomy dummy0 places0 arcs0 sma
 
 -- a contraction, step by step
 module _ (base : Base) (t : ℕ) (l l1 l2 l3 : Layout) (timed : IsTimed l) (laid : IsLaid l) (timed1 : IsTimed l1) (timed2 : IsTimed l2) (timed3 : IsTimed l3) (laid1 : IsLaid l1) (range : t < length l.trans) (live : died l false t ≡ none)
-    (can : CanMake t (pairs_of l t (before_at l t)) l) (made0 : IsMade t (pairs_of l t (before_at l t)) l l1) (hidden : IsHidden t none l1 l2) (gone : IsGone false t l2 l3) where
+    (can : CanMake t (pairs_of l t (before_at l t)) l) (made0 : IsMade t (pairs_of l t (before_at l t)) l l1) (hidden : IsRoundHidden t none l1 l2) (gone : IsGone false t l2 l3) where
   ps : List (ℕ × ℕ)
   ps = pairs_round (now_of base l) t
 
@@ -387,7 +387,7 @@ pub record IsReplaced (base : Base) (t : ℕ) (l l' : Layout) : Type 0 where
   pub places : length l'.places ≡ length l.places + new_places (now_of base l) t
   pub cells : length l'.arcs ≤ length l.arcs + new_places (now_of base l) t + new_arcs (now_of base l) t
 
-pub is_replaced : (base : Base) (t : ℕ) (l l1 l2 l3 : Layout) → IsTimed l → IsLaid l → IsTimed l1 → IsTimed l2 → IsTimed l3 → IsLaid l1 → IsReplaceable base t l → IsMade t (pairs_of l t (before_at l t)) l l1 → IsHidden t none l1 l2 → IsGone false t l2 l3 → IsReplaced base t l l3
+pub is_replaced : (base : Base) (t : ℕ) (l l1 l2 l3 : Layout) → IsTimed l → IsLaid l → IsTimed l1 → IsTimed l2 → IsTimed l3 → IsLaid l1 → IsReplaceable base t l → IsMade t (pairs_of l t (before_at l t)) l l1 → IsRoundHidden t none l1 l2 → IsGone false t l2 l3 → IsReplaced base t l l3
 is_replaced base t l l1 l2 l3 timed laid timed1 timed2 timed3 laid1 may made hidden gone = record {
   later = later_all base t l l1 l2 l3 timed laid timed1 timed2 timed3 laid1 may.range may.live may.can made hidden gone;
   all_cells = all_cells base t l l1 l2 l3 timed laid timed1 timed2 timed3 laid1 may.range may.live may.can made hidden gone;

@@ -2,7 +2,7 @@
 use Rattle.std.proofs.Common.{◌≡◌, ◌<◌, ◌≤◌, ◌⊎◌, ℕ, Bool, List, true, false, length, refl, ap, ◌∙◌, arith}
 use Rattle.stg_edit.specs.declared.editor.Mark.{Mark}
 use Rattle.stg_edit.specs.Drafting.{IsMarked}
-use Rattle.stg_edit.specs.Layout.{Layout, none, many, died, gone_at, arc_at, end_of, IsHead, IsLaid, IsTimed}
+use Rattle.stg_edit.specs.Layout.{Layout, none, count_of, died, gone_at, arc_at, end_of, IsHead, IsLaid, IsTimed}
 
 abbrev pub with_room : Layout → ℕ → ℕ → ℕ → Layout
 with_room l log cells places = record l { log_room = log; cell_room = cells; place_room = places }
@@ -12,7 +12,7 @@ module _ (l : Layout) (log cells places : ℕ) where
   died_same true k = refl
   died_same false k = refl
 
-  many_same : (b : Bool) → many (with_room l log cells places) b ≡ many l b
+  many_same : (b : Bool) → count_of (with_room l log cells places) b ≡ count_of l b
   many_same true = refl
   many_same false = refl
 
@@ -29,11 +29,11 @@ module _ (l : Layout) (log cells places : ℕ) where
     sizes = λ b. omega (arith, many_same b, laid.sizes b);
   }
     where
-      bounded : (b : Bool) (c : ℕ) → c < length l.arcs → (end_of b (arc_at l.arcs c) ≡ none) ⊎ (end_of b (arc_at l.arcs c) < many (with_room l log cells places) b)
+      bounded : (b : Bool) (c : ℕ) → c < length l.arcs → (end_of b (arc_at l.arcs c) ≡ none) ⊎ (end_of b (arc_at l.arcs c) < count_of (with_room l log cells places) b)
       bounded true c h = laid.bounded true c h
       bounded false c h = laid.bounded false c h
 
-      heads : (b : Bool) (k : ℕ) → k < many (with_room l log cells places) b → IsHead (with_room l log cells places) b k
+      heads : (b : Bool) (k : ℕ) → k < count_of (with_room l log cells places) b → IsHead (with_room l log cells places) b k
       heads true k h = let x = laid.heads true k h in record { below = x.below; far = x.far; key = x.key }
       heads false k h = let x = laid.heads false k h in record { below = x.below; far = x.far; key = x.key }
 

@@ -5,7 +5,7 @@ use Rattle.stg_edit.specs.Times.{IsNextAt}
 use Rattle.stg_edit.specs.Layout.{Layout, none, arc_at, end_of, died, side, times_of, gone_at, IsLaid, IsTimed}
 use Rattle.stg_edit.specs.Walked.{IsWalking}
 use Rattle.stg_edit.specs.Drafting.{weight}
-use Rattle.stg_edit.specs.Hidden.{weights_at, touch, IsHiddenAt, IsFewer, IsHidden}
+use Rattle.stg_edit.specs.Hidden.{weights_at, touch, IsHiddenAt, IsFewer, IsRoundHidden}
 use Rattle.stg_edit.proofs.Rings.{stop_other}
 use Rattle.stg_edit.proofs.Marks.{depth_now, log_length, gone_old, gone_new}
 use Rattle.stg_edit.proofs.Weights.{ring_here, ring_gap}
@@ -16,7 +16,7 @@ use Rattle.stg_edit.proofs.Pairing.{at_trans, is_arc}
 
 -- the walk round t is at x
 pub record IsHidingRound (t : ℕ) (l l' : Layout) (x : ℕ) : Type 0 where
-  pub hidden : IsHidden t (arc_at l.arcs x).place l l'
+  pub hidden : IsRoundHidden t (arc_at l.arcs x).place l l'
   pub walking : IsWalking l' false t x
 
 -- between two cells of the walk nothing is touched
@@ -166,7 +166,7 @@ module _ (t : ℕ) (l l' : Layout) (x z : ℕ) (j : IsHidingRound t l l' x) (lai
             };
       }
 
-pub hiding_ends : (t : ℕ) (l l' : Layout) (x : ℕ) → IsHidingRound t l l' x → IsLaid l' → t < length l'.trans → x ≡ t → IsHidden t none l l'
+pub hiding_ends : (t : ℕ) (l l' : Layout) (x : ℕ) → IsHidingRound t l l' x → IsLaid l' → t < length l'.trans → x ≡ t → IsRoundHidden t none l l'
 hiding_ends t l l' x j laid range e =
-    let P : ℕ → Type 0 = λ end. IsHidden t end l l' in
+    let P : ℕ → Type 0 = λ end. IsRoundHidden t end l l' in
     subst P (ap (λ xs. (arc_at xs x).place) (sym j.hidden.fewer.arcs) ∙ ap (λ c. (arc_at l'.arcs c).place) e ∙ (laid.heads false t range).far) j.hidden

@@ -12,7 +12,7 @@ use Rattle.stg_net.specs.declared.signal.Signal.{Signal}
 use Rattle.stg_net.specs.Net.{signal_at}
 use Rattle.stg_net.specs.Graph.{Graph, Place, FullName, IsPlace, IsTrans, IsDummy, place_at, full_name_at, tokens_at, tokens_in, takes, gives, taken_by, given_by, is_among, has_signal_of}
 use Rattle.stg_edit.specs.Table.{place_of, places_of}
-use Rattle.stg_edit.specs.Layout.{Layout, many, none, died, spot_at, IsTimed}
+use Rattle.stg_edit.specs.Layout.{Layout, count_of, none, died, spot_at, IsTimed}
 use Rattle.stg_edit.specs.Drafting.{Base, weight, weight_at, table_at, trans_of, now_of}
 use Rattle.stg_net.specs.Initial.{row}
 
@@ -38,10 +38,10 @@ name_now base l t timed range live =
     get_or-map-range_with_len (trans_of l base.names (length l.log)) 0 (length l.trans) t t None range (zero-add t)
     ∙ ap (λ z. cond z (slice_get base.names t) None) (alive l false t timed live)
 
-pub is_place_now : (base : Base) (l : Layout) (p : ℕ) → IsTimed l → (p < many l true) × (died l true p ≡ none) → IsPlace (now_of base l) p
+pub is_place_now : (base : Base) (l : Layout) (p : ℕ) → IsTimed l → (p < count_of l true) × (died l true p ≡ none) → IsPlace (now_of base l) p
 is_place_now base l p t live = ap is_some (place_now base l p t live.0 live.1)
 
-pub is_trans_now : (base : Base) (l : Layout) (u : ℕ) → IsTimed l → length base.names ≡ length l.trans → (u < many l false) × (died l false u ≡ none) → IsTrans (now_of base l) u
+pub is_trans_now : (base : Base) (l : Layout) (u : ℕ) → IsTimed l → length base.names ≡ length l.trans → (u < count_of l false) × (died l false u ≡ none) → IsTrans (now_of base l) u
 is_trans_now base l u t long live = rw (name_now base l u t live.0 live.1) (some u base.names (omega (arith, live.0)))
   where
     some : (k : ℕ) (xs : List FullName) → k < length xs → is_some (slice_get xs k) ≡ true

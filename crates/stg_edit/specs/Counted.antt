@@ -8,9 +8,9 @@ abbrev pub live_places : Graph → List ℕ
 live_places g = filter (λ p. is_some (place_at g p)) (place_numbers g)
 
 -- how many arcs there are at p, in both directions
-abbrev pub arcs_at : Graph → ℕ → ℕ
-arcs_at g p = length (taking_trans g p) + length (giving_trans g p)
+abbrev pub count_arcs_at : Graph → ℕ → ℕ
+count_arcs_at g p = length (taking_trans g p) + length (giving_trans g p)
 
 -- how many arcs there are
 abbrev pub count_arcs : Graph → ℕ
-count_arcs g = sum_by (arcs_at g) (live_places g)
+count_arcs g = sum_by (count_arcs_at g) (live_places g)

@@ -26,7 +26,7 @@ pub record IsFewer (l l' : Layout) : Type 0 where
   pub all : HasAllCells (length l.log) l'
 
 -- of the places below `end` all went that lived and have a weight with t, and nothing else
-pub record IsHidden (t end : ℕ) (l l' : Layout) : Type 0 where
+pub record IsRoundHidden (t end : ℕ) (l l' : Layout) : Type 0 where
   pub fewer : IsFewer l l'
   pub gone : (p : ℕ) → p < end → p < length l.places → died l true p ≡ none → 0 < touch l t p → died l' true p < length l'.log
   pub ahead : (p : ℕ) → end ≤ p → died l' true p ≡ died l true p

@@ -1,7 +1,7 @@
 -- The merge of two rows into a new one.
-use Rattle.std.specs.Prelude.{◌≡◌, ◌≢◌, ◌<◌, ◌≤◌, ◌+◌, ◌-◌, ℕ, Bool, true, false, cond, min, ◌==◌, eqb, length}
+use Rattle.std.specs.Prelude.{◌^◌, ◌≡◌, ◌≢◌, ◌<◌, ◌≤◌, ◌+◌, ◌-◌, ℕ, Bool, true, false, cond, min, ◌==◌, eqb, length}
 use Rattle.stg_edit.specs.Times.{IsNextAt}
-use Rattle.stg_edit.specs.Layout.{Layout, none, arc_at, side, died, times_of, many, IsPastAll}
+use Rattle.stg_edit.specs.Layout.{Layout, none, arc_at, side, died, times_of, count_of, IsPastAll}
 use Rattle.stg_edit.specs.Walked.{weight_of, IsWalking}
 use Rattle.stg_edit.specs.Drafting.{weight, weight_at}
 use Rattle.stg_edit.specs.Walks.{arcs_below}
@@ -34,7 +34,7 @@ pub record IsPut (l l' : Layout) (t n u : ℕ) (w : Bool → ℕ) : Type 0 where
 pub record IsArcAllowed (l : Layout) (t : ℕ) : Type 0 where
   pub place : 0 < length l.places
   pub live_place : died l true (length l.places - 1) ≡ none
-  pub trans : t < many l false
+  pub trans : t < count_of l false
   pub live_trans : died l false t ≡ none
   pub after : IsPastAll l (length l.places - 1) t
   pub room : length l.arcs < l.cell_room
@@ -43,7 +43,7 @@ pub record IsArcAllowed (l : Layout) (t : ℕ) : Type 0 where
 pub record IsPutAllowed (l : Layout) (t u weights : ℕ) : Type 0 where
   pub place : 0 < length l.places
   pub live_place : died l true (length l.places - 1) ≡ none
-  pub trans : u < many l false
+  pub trans : u < count_of l false
   pub live_trans : died l false u ≡ none
   pub after : IsPastAll l (length l.places - 1) u
   pub room : u ≢ t → 0 < weights → length l.arcs < l.cell_room
@@ -75,7 +75,7 @@ pub record CanJoin (l : Layout) (p q t : ℕ) : Type 0 where
   pub live_second : died l true q ≡ none
   pub bare : (c : ℕ) → c < length l.arcs → (arc_at l.arcs c).place ≡ length l.places - 1 → (arc_at l.arcs c).trans ≡ none
   pub room : length l.arcs + joined_arcs l t p q (length l.trans) ≤ l.cell_room
-  pub sums : (take : Bool) (v : ℕ) → v < length l.trans → died l false v ≡ none → weight l.arcs take p v + weight l.arcs take q v < 4294967296
+  pub sums : (take : Bool) (v : ℕ) → v < length l.trans → died l false v ≡ none → weight l.arcs take p v + weight l.arcs take q v < 2 ^ 32
 
 -- the row n has the sums of the rows p and q, but nothing at t, and all other rows are the same
 pub record IsJoined (l l' : Layout) (p q t n : ℕ) : Type 0 where

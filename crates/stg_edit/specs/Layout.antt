@@ -55,9 +55,9 @@ abbrev pub marked_trans : Bool → ℕ → ℕ → List ℕ → List ℕ
 marked_trans true k m trans = trans
 marked_trans false k m trans = set trans k m
 
-abbrev pub many : Layout → Bool → ℕ
-many l true = length l.places
-many l false = length l.trans
+abbrev pub count_of : Layout → Bool → ℕ
+count_of l true = length l.places
+count_of l false = length l.trans
 
 -- the head of the ring of a place, or of a transition
 abbrev pub head_of : Layout → Bool → ℕ → ℕ
@@ -88,18 +88,18 @@ pub record IsAfter (b : Bool) (x y : Arc) : Type 0 where
 -- how the cells lie
 pub record IsLaid (l : Layout) : Type 0 where
   pub ascending : (b : Bool) (c d : ℕ) → c < d → d < length l.arcs → end_of b (arc_at l.arcs c) ≡ end_of b (arc_at l.arcs d) → IsAfter b (arc_at l.arcs c) (arc_at l.arcs d)
-  pub bounded : (b : Bool) (c : ℕ) → c < length l.arcs → (end_of b (arc_at l.arcs c) ≡ none) ⊎ (end_of b (arc_at l.arcs c) < many l b)
-  pub heads : (b : Bool) (k : ℕ) → k < many l b → IsHead l b k
+  pub bounded : (b : Bool) (c : ℕ) → c < length l.arcs → (end_of b (arc_at l.arcs c) ≡ none) ⊎ (end_of b (arc_at l.arcs c) < count_of l b)
+  pub heads : (b : Bool) (k : ℕ) → k < count_of l b → IsHead l b k
   pub small : length l.arcs < none
   pub cells : length l.arcs ≤ l.cell_room
   pub most_cells : l.cell_room < none
   pub places : length l.places ≤ l.place_room
   pub most_places : l.place_room < none
-  pub sizes : (b : Bool) → many l b ≤ none
+  pub sizes : (b : Bool) → count_of l b ≤ none
 
 -- the marks of removal and the log agree
 pub record IsTimed (l : Layout) : Type 0 where
-  pub in_range : (s : ℕ) → s < length l.log → (gone_at l s).node < many l (gone_at l s).is_place
+  pub in_range : (s : ℕ) → s < length l.log → (gone_at l s).node < count_of l (gone_at l s).is_place
   pub logged : (s : ℕ) → s < length l.log → died l (gone_at l s).is_place (gone_at l s).node ≡ s
   pub node : (b : Bool) (k : ℕ) → died l b k < length l.log → (gone_at l (died l b k)).node ≡ k
   pub kind : (b : Bool) (k : ℕ) → died l b k < length l.log → (gone_at l (died l b k)).is_place ≡ b
@@ -121,9 +121,9 @@ pub record IsGone (b : Bool) (k : ℕ) (l l' : Layout) : Type 0 where
   pub cell_room : l'.cell_room ≡ l.cell_room
   pub place_room : l'.place_room ≡ l.place_room
   pub tokens : (p : ℕ) → (spot_at l'.places p).tokens ≡ (spot_at l.places p).tokens
-  pub as_many : (c : Bool) → many l' c ≡ many l c
+  pub as_many : (c : Bool) → count_of l' c ≡ count_of l c
   pub heads : (c : Bool) (j : ℕ) → head_of l' c j ≡ head_of l c j
-  pub in_range : k < many l b
+  pub in_range : k < count_of l b
 
 -- from l to l' the cell a is put behind the others
 pub record IsPushed (a : Arc) (l l' : Layout) : Type 0 where
@@ -141,7 +141,7 @@ pub record IsPushedArc (a : Arc) (l l' : Layout) : Type 0 where
   pub pushed : IsPushed a l l'
   pub places : l'.places ≡ l.places
   pub trans : l'.trans ≡ l.trans
-  pub inside : (b : Bool) → end_of b a < many l b
+  pub inside : (b : Bool) → end_of b a < count_of l b
 
 abbrev pub head_arc : Layout → Arc
 head_arc l = record { place = length l.places; trans = none; take = 0; give = 0 }
@@ -161,6 +161,6 @@ pub record IsPastAll (l : Layout) (p t : ℕ) : Type 0 where
 -- the last cell is an arc of a place and a transition that live, and was put there since anything went
 pub record EndsInArc (l : Layout) : Type 0 where
   pub some : 0 < length l.arcs
-  pub inside : (b : Bool) → end_of b (arc_at l.arcs (length l.arcs - 1)) < many l b
+  pub inside : (b : Bool) → end_of b (arc_at l.arcs (length l.arcs - 1)) < count_of l b
   pub live : (b : Bool) → died l b (end_of b (arc_at l.arcs (length l.arcs - 1))) ≡ none
   pub late : (s : ℕ) → s < length l.log → (gone_at l s).cells < length l.arcs

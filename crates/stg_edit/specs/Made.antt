@@ -1,5 +1,5 @@
 -- New places, one for each of a list of pairs.
-use Rattle.std.specs.Prelude.{◌≡◌, ◌<◌, ◌≤◌, ◌+◌, ◌==◌, [], ◌∷◌, ◌++◌, ℕ, Bool, true, false, cond, nat_lt, List, map, flat_map, length, slice_index_or, sum_by}
+use Rattle.std.specs.Prelude.{◌^◌, ◌≡◌, ◌<◌, ◌≤◌, ◌+◌, ◌==◌, [], ◌∷◌, ◌++◌, ℕ, Bool, true, false, cond, nat_lt, List, map, flat_map, length, slice_index_or, sum_by}
 use Rattle.stg_edit.specs.Layout.{Layout, none, arc_at, spot_at, died}
 use Rattle.stg_edit.specs.Walked.{weight_of, left, IsWalking}
 use Rattle.stg_edit.specs.Drafting.{weight}
@@ -21,8 +21,8 @@ pub record IsPairFit (l : Layout) (x : ℕ × ℕ) : Type 0 where
   pub second : x.1 < length l.places
   pub live_first : died l true x.0 ≡ none
   pub live_second : died l true x.1 ≡ none
-  pub tokens : (spot_at l.places x.0).tokens + (spot_at l.places x.1).tokens < 4294967296
-  pub sums : (take : Bool) (v : ℕ) → v < length l.trans → died l false v ≡ none → weight l.arcs take x.0 v + weight l.arcs take x.1 v < 4294967296
+  pub tokens : (spot_at l.places x.0).tokens + (spot_at l.places x.1).tokens < 2 ^ 32
+  pub sums : (take : Bool) (v : ℕ) → v < length l.trans → died l false v ≡ none → weight l.arcs take x.0 v + weight l.arcs take x.1 v < 2 ^ 32
 
 -- the pairs fit, and there is room for their places
 pub record CanMake (t : ℕ) (ps : List (ℕ × ℕ)) (l : Layout) : Type 0 where

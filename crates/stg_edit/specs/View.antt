@@ -6,7 +6,7 @@ use Rattle.stg_net.specs.declared.trans.TransName.{TransName}
 use Rattle.stg_net.specs.Net.{signal_at}
 use Rattle.stg_edit.specs.declared.editor.Editor.TheInside.{Inside}
 use Rattle.stg_edit.specs.Editing.{Editing, Spare, name_in}
-use Rattle.stg_edit.specs.Layout.{Layout, many}
+use Rattle.stg_edit.specs.Layout.{Layout, count_of}
 use Rattle.stg_edit.specs.Drafting.{Base, now_of, past_of, IsMarked}
 
 -- what stays the same through all edits
@@ -43,7 +43,7 @@ pub record IsNamed (signals : List Signal) (names : List TransName) (known : Lis
 pub record IsEditor (e : Inside) : Type 0 where
   pub marked : IsMarked e.arena e.marks.items
   pub room : e.edit_room ≤ vec_capacity e.marks
-  pub log_long : e.arena.place_room + many e.arena false ≤ e.arena.log_room
+  pub log_long : e.arena.place_room + count_of e.arena false ≤ e.arena.log_room
   pub long : length e.marks.items ≤ e.edit_room
   pub roomy : length e.arena.arcs + (e.arena.place_room - length e.arena.places) ≤ e.arena.cell_room
   pub names_long : length e.names ≡ length e.arena.trans

@@ -5,7 +5,7 @@
 ghost use Rattle.std.specs.Prelude.{◌≡◌, ◌<◌, ◌≤◌, ◌+◌, ◌-◌, ℕ, true, false, not, length, map, IsTrue, IfOk, OnOk, OnErr, vec_capacity, ◌↔◌};
 ghost use Rattle.std.specs.List.{range_with_len};
 ghost use Rattle.stg_edit.specs.Bare.{bare, trans_head, lone_link};
-ghost use Rattle.stg_edit.specs.Layout.{marked_places, marked_trans, died, spot_at, none, many, gone_at, IsGone, IsPushedArc, IsPushedPlace, IsTimed, IsLaid, EndsInArc, end_of, arc_at, side, times_of, head_of};
+ghost use Rattle.stg_edit.specs.Layout.{marked_places, marked_trans, died, spot_at, none, count_of, gone_at, IsGone, IsPushedArc, IsPushedPlace, IsTimed, IsLaid, EndsInArc, end_of, arc_at, side, times_of, head_of};
 ghost use Rattle.stg_edit.specs.Joined.{IsArcAllowed};
 ghost use Rattle.stg_edit.specs.Later.{HasAllCells, IsBack};
 ghost use Rattle.stg_edit.specs.Popping.{EndsInPlace, IsHeadPushed, IsOneMore, CanPop, IsPopping};
@@ -55,7 +55,7 @@ pub struct Gone {
 pub struct Arena {
     arcs: Vec<Arc>,
     rows: Vec<Link>,
-    cols: Vec<Link>,
+    columns: Vec<Link>,
     places: Vec<Spot>,
     trans: Vec<u32>,
     log: Vec<Gone>,
@@ -88,7 +88,7 @@ impl Arena {
         Ok(Arena {
             arcs: push_heads(alloc, trans, cells)?,
             rows: push_rings(alloc, trans, cells)?,
-            cols: push_rings(alloc, trans, cells)?,
+            columns: push_rings(alloc, trans, cells)?,
             places: Vec::with_capacity(alloc, places as usize)?,
             trans: vec![in alloc; NONE; trans as usize]?,
             log: Vec::with_capacity(alloc, log_room as usize)?,
@@ -100,7 +100,7 @@ impl Arena {
 
     /// The place, or the transition, goes.
     pub fn hide(&mut self, by_place: bool, node: u32)
-        requires range { node < many self.old by_place }
+        requires range { node < count_of self.old by_place }
         requires live { died self.old by_place node ≡ none }
         requires room { length self.old.log < self.old.log_room }
         ensures { IsGone by_place node self.old self.new }
@@ -109,7 +109,7 @@ impl Arena {
         let moment = self.log.len() as u32;
         let head = self.head(by_place, node);
         mark(&mut self.places, &mut self.trans, by_place, node, moment);
-        hide_ring(&mut self.rows, &mut self.cols, by_place, head);
+        hide_ring(&mut self.rows, &mut self.columns, by_place, head);
         self.log.push_reserved(Gone {
             is_place: by_place,
             node,
@@ -126,7 +126,7 @@ impl Arena {
         let head = self.head(by_place, node);
         let _gone = self.log.take_last();
         mark(&mut self.places, &mut self.trans, by_place, node, NONE);
-        show_ring(&mut self.rows, &mut self.cols, by_place, head);
+        show_ring(&mut self.rows, &mut self.columns, by_place, head);
     }
 
     /// What went last comes back.
@@ -151,7 +151,7 @@ impl Arena {
             prev: cell,
             next: cell,
         });
-        self.cols.push_reserved(Link {
+        self.columns.push_reserved(Link {
             prev: cell,
             next: cell,
         });
@@ -176,7 +176,7 @@ impl Arena {
         let place = (self.places.len() - 1) as u32;
         let head = self.places[place as usize].head;
         push_link(&mut self.rows, head);
-        push_link(&mut self.cols, trans);
+        push_link(&mut self.columns, trans);
         self.arcs.push_reserved(Arc {
             place,
             trans,
@@ -193,13 +193,13 @@ impl Arena {
         if by_place {
             self.rows[c as usize].next
         } else {
-            self.cols[c as usize].next
+            self.columns[c as usize].next
         }
     }
 
     /// The head of the ring of a place, or of a transition.
     pub fn head(&self, by_place: bool, node: u32) -> u32
-        requires { node < many self.now by_place }
+        requires { node < count_of self.now by_place }
         ensures { result ≡ head_of self.now by_place node }
     {
         if by_place {
@@ -251,7 +251,7 @@ impl Arena {
         let cells = (new_places + new_arcs) as usize;
         self.arcs.reserve(cells)?;
         self.rows.reserve(cells)?;
-        self.cols.reserve(cells)?;
+        self.columns.reserve(cells)?;
         self.places.reserve(new_places as usize)?;
         self.log.reserve(log_room as usize - self.log.len())?;
         self.place_room = place_room as u32;
@@ -270,7 +270,7 @@ impl Arena {
 
     /// Whether the place, or the transition, of that number is live.
     pub fn is_live(&self, by_place: bool, node: u32) -> bool
-        ensures { IsTrue result ↔ (node < many self.now by_place) × (died self.now by_place node ≡ none) }
+        ensures { IsTrue result ↔ (node < count_of self.now by_place) × (died self.now by_place node ≡ none) }
     {
         if by_place {
             (node as usize) < self.places.len() && self.places[node as usize].died == NONE
@@ -369,7 +369,7 @@ impl Arena {
         ensures { (a : ThisArc) × (s : ThisSpot) × IsHeadPushed a s self.new self.old }
     {
         let _row = self.rows.take_last();
-        let _col = self.cols.take_last();
+        let _col = self.columns.take_last();
         let _arc = self.arcs.take_last();
         let _place = self.places.take_last();
     }
@@ -380,7 +380,7 @@ impl Arena {
         ensures { IsPushedArc (arc_at self.old.arcs (length self.old.arcs - 1)) self.new self.old }
     {
         pop_link(&mut self.rows);
-        pop_link(&mut self.cols);
+        pop_link(&mut self.columns);
         let _arc = self.arcs.take_last();
     }
 }

@@ -2,7 +2,7 @@
 
 ghost use Rattle.std.specs.Prelude.{◌≡◌, ◌<◌, ◌+◌, ◌-◌, ◌↔◌, IsTrue, IfOk, length};
 ghost use Rattle.stg_net.specs.declared.limits.TheConstants.Limits.{PART};
-ghost use Rattle.stg_net.specs.Net.{IsNet, IsWithin};
+ghost use Rattle.stg_net.specs.Net.{IsWithin};
 ghost use Rattle.stg_edit.specs.Bare.{bare};
 ghost use Rattle.stg_edit.specs.Layout.{none};
 ghost use Rattle.stg_edit.specs.Filling.{net_arc_at, IsPair, IsFilled, IsInRow};

@@ -14,12 +14,14 @@ use crate::editor::Editor;
 use std::alloc::Global;
 use stg_net::{Kind, NetArc, NoMemory, Nums, Seq, Signal, TransName};
 
+/// Whether there is a live place of that number.
 fn has_place(editor: &Editor, p: u32) -> bool
     ensures { result ≡ is_some (place_at editor.now.now p) }
 {
     editor.is_place(p)
 }
 
+/// Whether there is a live transition of that number.
 fn has_trans(editor: &Editor, t: u32) -> bool
     ensures { result ≡ is_some (full_name_at editor.now.now t) }
 {
@@ -66,12 +68,14 @@ pub fn list_trans(alloc: Global, editor: &Editor) -> Result<Nums, NoMemory>
     Ok(list)
 }
 
+/// Whether the signal is one of the own ones.
 fn is_among_own(own: &[u32], s: u32) -> bool
     ensures { result ≡ is_one_of own.now s }
 {
     own.iter().any(|k| *k == s)
 }
 
+/// The signal of that number, which keeps its kind where it is an own one.
 fn show_signal(alloc: Global, signals: &[Signal], own: &[u32], s: u32) -> Result<Signal, NoMemory>
     requires { s < length signals.now }
     ensures { IfOk result (λ x. x ≡ signal_shown signals.now own.now s) }
@@ -103,6 +107,7 @@ pub fn show_signals(
     Ok(list)
 }
 
+/// How many of the kept numbers stand before that one.
 fn renumber(kept: &[u32], old: u32) -> usize
     ensures { result ≡ new_number kept.now old }
 {
@@ -185,6 +190,7 @@ fn list_given(alloc: Global, editor: &Editor, p: u32) -> Result<Vec<u32>, NoMemo
     Ok(row)
 }
 
+/// Adds the arc, where it has a weight.
 fn push_arc(list: &mut Seq<NetArc>, arc: NetArc) -> Result<(), NoMemory>
     ensures { OnOk result (list.new ≡ list.old ++ weighted_arc arc) }
 {

@@ -12,8 +12,7 @@ ghost use Rattle.stg_edit.specs.Compacted.{IsNetOf};
 ghost use Rattle.stg_edit.specs.Packing.{IsFit};
 ghost use Rattle.stg_edit.specs.Drafting.{present};
 ghost use Rattle.stg_edit.specs.Walks.{taken_places, given_places, taking_trans, giving_trans};
-ghost use Rattle.stg_edit.specs.Counted.{live_places, count_arcs};
-ghost use Rattle.stg_edit.specs.Counted as editing;
+ghost use Rattle.stg_edit.specs.Counted.{live_places, count_arcs, count_arcs_at};
 ghost use Rattle.stg_edit.specs.Editing.{IsAsMuch, IsNode, less, one_edit_less, name_in, without_node};
 ghost use Rattle.stg_edit.specs.Replacing.{new_places, new_arcs, IsSmallPair};
 
@@ -93,7 +92,8 @@ impl Editor {
         })
     }
 
-    /// Makes at least so much spare.
+    /// Makes at least so much spare. There is `NoMemory` also where the edits, places or arcs, those
+    /// that are there among them, would pass 32 bits.
     pub fn reserve(&mut self, edits: u32, places: u32, arcs: u32) -> Result<(), NoMemory>
         ensures ok { OnOk result (IsAsMuch (record { edits = edits; places = places; arcs = arcs }) self.new.spare) }
         ensures spare { IsAsMuch self.old.spare self.new.spare }
@@ -219,7 +219,7 @@ impl Editor {
     /// The number of arcs at a live place.
     fn arcs_at(&self, p: u32) -> u64
         requires { IsPlace self.now.now p }
-        ensures { result ≡ editing.arcs_at self.now.now p }
+        ensures { result ≡ count_arcs_at self.now.now p }
     {
         self.arena.sound();
         self.takers(p).count() as u64 + self.givers(p).count() as u64
@@ -357,7 +357,7 @@ impl Editor {
     }
 
     /// Makes the net of the draft: the known signals, where the own ones alone keep their kinds and
-    /// the others are inputs, and the live transitions and places.
+    /// the others are inputs, and the live transitions and places. No dummy may be live.
     pub fn net(&self, own: &Nums) -> Result<Net, NoMemory>
         requires { (t : ℕ) → IsDummy self.now.now t → ⊥ }
         ensures value { IfOk result (λ n. IsNetOf self.now own.now n) }

@@ -61,34 +61,34 @@ fn show(own: &[Link], other: &mut [Link], head: u32)
 }
 
 /// The ring of a place, or of a transition, is taken out of those of the other side.
-pub fn hide_ring(rows: &mut Vec<Link>, cols: &mut Vec<Link>, by_place: bool, head: u32)
-    requires { (f : Frame) × CanHide f (links_of by_place rows.old.items cols.old.items) (links_of (not by_place) rows.old.items cols.old.items) head }
-    ensures ring { (f : Frame) → CanHide f (links_of by_place rows.old.items cols.old.items) (links_of (not by_place) rows.old.items cols.old.items) head → IsHidden f head f.size (links_of (not by_place) rows.old.items cols.old.items) (links_of (not by_place) rows.new.items cols.new.items) }
-    ensures kept { links_of by_place rows.new.items cols.new.items ≡ links_of by_place rows.old.items cols.old.items }
-    ensures len { length (links_of (not by_place) rows.new.items cols.new.items) ≡ length (links_of (not by_place) rows.old.items cols.old.items) }
+pub fn hide_ring(rows: &mut Vec<Link>, columns: &mut Vec<Link>, by_place: bool, head: u32)
+    requires { (f : Frame) × CanHide f (links_of by_place rows.old.items columns.old.items) (links_of (not by_place) rows.old.items columns.old.items) head }
+    ensures ring { (f : Frame) → CanHide f (links_of by_place rows.old.items columns.old.items) (links_of (not by_place) rows.old.items columns.old.items) head → IsHidden f head f.size (links_of (not by_place) rows.old.items columns.old.items) (links_of (not by_place) rows.new.items columns.new.items) }
+    ensures kept { links_of by_place rows.new.items columns.new.items ≡ links_of by_place rows.old.items columns.old.items }
+    ensures len { length (links_of (not by_place) rows.new.items columns.new.items) ≡ length (links_of (not by_place) rows.old.items columns.old.items) }
     ensures rows_room { vec_capacity rows.new ≡ vec_capacity rows.old }
-    ensures cols_room { vec_capacity cols.new ≡ vec_capacity cols.old }
+    ensures columns_room { vec_capacity columns.new ≡ vec_capacity columns.old }
 {
     if by_place {
-        hide(rows, cols, head);
+        hide(rows, columns, head);
     } else {
-        hide(cols, rows, head);
+        hide(columns, rows, head);
     }
 }
 
 /// The ring of a place, or of a transition, is put back into those of the other side.
-pub fn show_ring(rows: &mut Vec<Link>, cols: &mut Vec<Link>, by_place: bool, head: u32)
-    requires { (f : Frame) × CanShow f (links_of by_place rows.old.items cols.old.items) (links_of (not by_place) rows.old.items cols.old.items) head }
-    ensures ring { (f : Frame) → CanShow f (links_of by_place rows.old.items cols.old.items) (links_of (not by_place) rows.old.items cols.old.items) head → IsShown f head f.size (links_of (not by_place) rows.old.items cols.old.items) (links_of (not by_place) rows.new.items cols.new.items) }
-    ensures kept { links_of by_place rows.new.items cols.new.items ≡ links_of by_place rows.old.items cols.old.items }
-    ensures len { length (links_of (not by_place) rows.new.items cols.new.items) ≡ length (links_of (not by_place) rows.old.items cols.old.items) }
+pub fn show_ring(rows: &mut Vec<Link>, columns: &mut Vec<Link>, by_place: bool, head: u32)
+    requires { (f : Frame) × CanShow f (links_of by_place rows.old.items columns.old.items) (links_of (not by_place) rows.old.items columns.old.items) head }
+    ensures ring { (f : Frame) → CanShow f (links_of by_place rows.old.items columns.old.items) (links_of (not by_place) rows.old.items columns.old.items) head → IsShown f head f.size (links_of (not by_place) rows.old.items columns.old.items) (links_of (not by_place) rows.new.items columns.new.items) }
+    ensures kept { links_of by_place rows.new.items columns.new.items ≡ links_of by_place rows.old.items columns.old.items }
+    ensures len { length (links_of (not by_place) rows.new.items columns.new.items) ≡ length (links_of (not by_place) rows.old.items columns.old.items) }
     ensures rows_room { vec_capacity rows.new ≡ vec_capacity rows.old }
-    ensures cols_room { vec_capacity cols.new ≡ vec_capacity cols.old }
+    ensures columns_room { vec_capacity columns.new ≡ vec_capacity columns.old }
 {
     if by_place {
-        show(rows, cols, head);
+        show(rows, columns, head);
     } else {
-        show(cols, rows, head);
+        show(columns, rows, head);
     }
 }
 

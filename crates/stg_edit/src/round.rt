@@ -2,7 +2,7 @@
 
 ghost use Rattle.std.specs.Prelude.{◌≡◌, ◌<◌, ◌≤◌, ◌+◌, ◌↔◌, true, false, length, IsTrue};
 ghost use Rattle.stg_edit.specs.Layout.{none, arc_at, died};
-ghost use Rattle.stg_edit.specs.Hidden.{weights_at, IsHiddenAt, IsHidden};
+ghost use Rattle.stg_edit.specs.Hidden.{weights_at, IsHiddenAt, IsRoundHidden};
 
 use crate::arena::Arena;
 
@@ -33,7 +33,7 @@ pub fn hide_round(arena: &mut Arena, t: u32)
     requires range { t < length arena.old.trans }
     requires live { died arena.old false t ≡ none }
     requires room { arena.old.place_room + length arena.old.trans ≤ arena.old.log_room }
-    ensures { IsHidden t none arena.old arena.new }
+    ensures { IsRoundHidden t none arena.old arena.new }
 {
     arena.sound();
     let mut x = arena.next(false, t);

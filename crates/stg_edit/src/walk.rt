@@ -3,7 +3,7 @@
 ghost use Rattle.std.specs.Prelude.{◌≡◌, ◌<◌, ◌≢◌, not};
 ghost use Rattle.stg_edit.specs.Walks.{weighted};
 ghost use Rattle.stg_edit.specs.Along.{weight_along};
-ghost use Rattle.stg_edit.specs.Layout.{none, many, died, end_of, arc_at};
+ghost use Rattle.stg_edit.specs.Layout.{none, count_of, died, end_of, arc_at};
 ghost use Rattle.stg_edit.specs.Walked.{IsLive, IsPassing, weight_of};
 ghost use Rattle.std.specs.Iterator.{YieldsFirst, item_count};
 
@@ -38,9 +38,9 @@ impl<'a> Walk<'a> {
     /// The walk round a live place, or a live transition, along the arcs out of places or those
     /// into them.
     pub(crate) fn of(arena: &'a Arena, by_place: bool, takes: bool, node: u32) -> Self
-        requires range { node < many arena.now by_place }
+        requires range { node < count_of arena.now by_place }
         requires live { died arena.now by_place node ≡ none }
-        ensures { result ≡ weighted (many arena.now (not by_place)) (weight_along arena.now by_place takes node) }
+        ensures { result ≡ weighted (count_of arena.now (not by_place)) (weight_along arena.now by_place takes node) }
     {
         arena.sound();
         let at = arena.next(by_place, arena.head(by_place, node));

@@ -6,10 +6,10 @@ use Rattle.stg_edit.proofs.links.hide_ring.Goals as goal
 
 pub returns-then-by_place-clause-ring : goal.returns-then-by_place-clause-ring
 returns-then-by_place-clause-ring c =
-    let old = c.args.cols.now.items in
+    let old = c.args.columns.now.items in
     rw c.if-by_place.true (λ f can.
     let P : List Link → Type 0 = λ xs. IsHidden f c.args.head f.size xs c.hide.new.other in
-    rw (with_items_is c.args.cols.now c.hide.new.other (c.hide.auto.other ∙ ap length c.deref_mut.ensures.value ∙ sym c.args.cols.now.ok.0))
+    rw (with_items_is c.args.columns.now c.hide.new.other (c.hide.auto.other ∙ ap length c.deref_mut.ensures.value ∙ sym c.args.columns.now.ok.0))
     (subst P c.deref_mut.ensures.value (c.hide.ensures f (rw (c.deref.ensures.value, c.deref_mut.ensures.value) can))))
 
 pub returns-else-by_place-clause-ring : goal.returns-else-by_place-clause-ring

@@ -18,7 +18,7 @@ invariant_of-self-2 c =
     let place : c.len-2.result ≡ length e.places.items = search rules in
     let count : c.len-5.result ≡ length e.log.items = search rules in
     let row : length e.rows.items ≡ length e.arcs.items = c.self.invariant.rows.long ∙ depth_now l in
-    let col : length e.cols.items ≡ length e.arcs.items = c.self.invariant.cols.long ∙ depth_now l in
+    let col : length e.columns.items ≡ length e.arcs.items = c.self.invariant.columns.long ∙ depth_now l in
     let l' : Layout = record { arcs = c.reserve.new.self.items; places = c.reserve-4.new.self.items; trans = e.trans.items; log = c.reserve-5.new.self.items; log_room = log; cell_room = cells; place_room = places } in
     let arcs = c.reserve.ensures.items in
     let spots = c.reserve-4.ensures.items in
@@ -34,10 +34,10 @@ invariant_of-self-2 c =
       laid = subst IsLaid (sym same) laid;
       timed = subst IsTimed (sym same) timed;
       rows = subst R (sym same) (subst S (sym c.reserve-2.ensures.items) c.self.invariant.rows);
-      cols = subst C (sym same) (subst D (sym c.reserve-3.ensures.items) c.self.invariant.cols);
+      columns = subst C (sym same) (subst D (sym c.reserve-3.ensures.items) c.self.invariant.columns);
       log_room = omega (arith, c.in_ok-reserve-5.ensures.ok, c.reserve-5.ensures.len);
       arcs_room = omega (arith, c.in_ok-reserve.ensures.ok, c.reserve.ensures.len);
       rows_room = omega (arith, c.in_ok-reserve-2.ensures.ok, c.reserve-2.ensures.len);
-      cols_room = omega (arith, c.in_ok-reserve-3.ensures.ok, c.reserve-3.ensures.len);
+      columns_room = omega (arith, c.in_ok-reserve-3.ensures.ok, c.reserve-3.ensures.len);
       places_room = omega (arith, c.in_ok-reserve-4.ensures.ok, c.reserve-4.ensures.len);
     }

@@ -1,7 +1,7 @@
 use Rattle.std.proofs.Common.{◌≡◌, true, false, cond, is_some, sym, ap, ◌∙◌, arith}
 use Rattle.std.proofs.lemmas.Bool.{false_from_ne_true, false≢true}
 use Rattle.stg_net.specs.Graph.{place_at}
-use Rattle.stg_edit.specs.Counted.{arcs_at}
+use Rattle.stg_edit.specs.Counted.{count_arcs_at}
 use Rattle.stg_edit.proofs.Counted.{sum_more}
 use Rattle.stg_edit.proofs.editor.Editor.arcs.Goals as goal
 use Rattle.stg_edit.proofs.editor.Editor.arcs.Goals.{then-is_place, else-is_place}
@@ -10,12 +10,12 @@ pub loop-p-preserved : goal.loop-p-preserved
 loop-p-preserved c =
     let g = c.args.self.now.now in
     let p = c.loop-p.p in
-    let more = sum_more (arcs_at g) (λ p. is_some (place_at g p)) p in
+    let more = sum_more (count_arcs_at g) (λ p. is_some (place_at g p)) p in
     elim c.if-is_place.branch [
       | then-is_place w ↦
           let live : is_some (place_at g p) ≡ true = c.is_place.ensures.0 w.if-is_place.true in
-          omega (arith, w.count-is, w.saturating_add-count.ensures, w.arcs_at.ensures, c.loop-p.invariant, more, ap (λ z. cond z (arcs_at g p) 0) live)
+          omega (arith, w.count-is, w.saturating_add-count.ensures, w.arcs_at.ensures, c.loop-p.invariant, more, ap (λ z. cond z (count_arcs_at g p) 0) live)
       | else-is_place w ↦
           let dead : is_some (place_at g p) ≡ false = false_from_ne_true (is_some (place_at g p)) (λ e. false≢true (sym w.if-is_place.false ∙ c.is_place.ensures.1 e)) in
-          omega (arith, w.count-is, c.loop-p.invariant, more, ap (λ z. cond z (arcs_at g p) 0) dead)
+          omega (arith, w.count-is, c.loop-p.invariant, more, ap (λ z. cond z (count_arcs_at g p) 0) dead)
     ]

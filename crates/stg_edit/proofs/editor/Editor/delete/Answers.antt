@@ -5,7 +5,7 @@ use Rattle.stg_edit.specs.declared.editor.Mark.{Mark}
 use Rattle.stg_edit.specs.View.{base, spare_of}
 use Rattle.stg_edit.specs.Drafting.{past_of, draft_at}
 use Rattle.stg_edit.proofs.Marks.{log_length}
-use Rattle.stg_edit.proofs.Drafted.{live_node, log_short, draft_without, spare_gone}
+use Rattle.stg_edit.proofs.Drafted.{node_lives, log_short, draft_without, spare_gone}
 use Rattle.stg_edit.proofs.Later.{later_gone}
 use Rattle.stg_edit.proofs.Marked.{marked_more, past_more, all_gone}
 use Rattle.stg_edit.proofs.editor.Editor.delete.Goals as goal
@@ -13,17 +13,17 @@ use Rattle.stg_edit.proofs.editor.Editor.delete.Goals as goal
 pub hide-requires-clause-range : goal.hide-requires-clause-range
 hide-requires-clause-range c =
     let P : Editing → Type 0 = λ v. IsNode c.args.by_place v.now c.args.node in
-    (live_node c.args.by_place (base c.self.inside) c.args.node c.self.inside.arena c.sound.ensures.timed (subst P (sym c.self.view_is) c.requires.live)).0
+    (node_lives c.args.by_place (base c.self.inside) c.args.node c.self.inside.arena c.sound.ensures.timed (subst P (sym c.self.view_is) c.requires.live)).0
 
 pub hide-requires-clause-live : goal.hide-requires-clause-live
 hide-requires-clause-live c =
     let P : Editing → Type 0 = λ v. IsNode c.args.by_place v.now c.args.node in
-    (live_node c.args.by_place (base c.self.inside) c.args.node c.self.inside.arena c.sound.ensures.timed (subst P (sym c.self.view_is) c.requires.live)).1
+    (node_lives c.args.by_place (base c.self.inside) c.args.node c.self.inside.arena c.sound.ensures.timed (subst P (sym c.self.view_is) c.requires.live)).1
 
 pub hide-requires-clause-room : goal.hide-requires-clause-room
 hide-requires-clause-room c =
     let P : Editing → Type 0 = λ v. IsNode c.args.by_place v.now c.args.node in
-    let live = live_node c.args.by_place (base c.self.inside) c.args.node c.self.inside.arena c.sound.ensures.timed (subst P (sym c.self.view_is) c.requires.live) in
+    let live = node_lives c.args.by_place (base c.self.inside) c.args.node c.self.inside.arena c.sound.ensures.timed (subst P (sym c.self.view_is) c.requires.live) in
     omega (arith, log_short c.self.inside.arena c.args.by_place c.args.node c.sound.ensures.timed live.0 live.1, c.self.invariant.log_long, c.sound.ensures.laid.places)
 
 pub invariant_of-self : goal.invariant_of-self

@@ -3,7 +3,7 @@ use Rattle.std.proofs.lemmas.List.{length-map}
 use Rattle.stg_net.specs.Graph.{IsTrans}
 use Rattle.stg_edit.specs.Editing.{Editing, name_in}
 use Rattle.stg_edit.specs.View.{base}
-use Rattle.stg_edit.proofs.Drafted.{live_trans}
+use Rattle.stg_edit.proofs.Drafted.{trans_lives}
 use Rattle.stg_edit.proofs.Shown.{is_trans_now}
 use Rattle.stg_edit.proofs.editor.Editor.is_trans.Goals as goal
 
@@ -13,4 +13,4 @@ returns c =
     let l = c.self.inside.arena in
     let x = base c.self.inside in
     let long = length-map c.self.inside.names (name_in c.self.inside.signals) ∙ c.self.invariant.names_long in
-    subst P c.self.view_is (λ yes. is_trans_now x l c.args.t c.sound.ensures.timed long (c.is_live.ensures.0 yes), λ live. c.is_live.ensures.1 (live_trans x c.args.t l c.sound.ensures.timed live))
+    subst P c.self.view_is (λ yes. is_trans_now x l c.args.t c.sound.ensures.timed long (c.is_live.ensures.0 yes), λ live. c.is_live.ensures.1 (trans_lives x c.args.t l c.sound.ensures.timed live))

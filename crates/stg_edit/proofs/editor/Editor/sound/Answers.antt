@@ -10,7 +10,7 @@ use Rattle.stg_edit.specs.View.{base}
 use Rattle.stg_edit.specs.Drafting.{now_of, trans_of, table_at}
 use Rattle.stg_edit.specs.Table.{place_of}
 use Rattle.stg_edit.specs.Layout.{died, none}
-use Rattle.stg_edit.proofs.Drafted.{live_trans}
+use Rattle.stg_edit.proofs.Drafted.{trans_lives}
 use Rattle.stg_edit.proofs.Shown.{name_now, gone_bare}
 use Rattle.std.proofs.lemmas.List.{length-map}
 use Rattle.stg_edit.proofs.Compacting.{same_names}
@@ -33,8 +33,8 @@ returns c =
     subst IsFit c.self.view_is (record {
       names_differ = c.self.invariant.named.names_differ;
       trans_differ = λ t u live same.
-          let a = live_trans x t l timed live in
-          let b = live_trans x u l timed (ap is_some (sym same) ∙ live) in
+          let a = trans_lives x t l timed live in
+          let b = trans_lives x u l timed (ap is_some (sym same) ∙ live) in
           same_names e.signals e.names t u d c.self.invariant.named.names_differ c.self.invariant.named.trans_differ c.self.invariant.named.in_range
           (omega (arith, a.0, c.self.invariant.names_long)) (omega (arith, b.0, c.self.invariant.names_long))
           (sym (at t a.0 a.1) ∙ same ∙ at u b.0 b.1);
