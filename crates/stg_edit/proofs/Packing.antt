@@ -237,3 +237,7 @@ push_more first l1 l2 l3 xs ys f u sofar a b whole =
 
 pub arcs_same : (g : Graph) (p t q u take give : ℕ) → take ≡ takes g t p → give ≡ gives g t p → weighted_arc (record { place = q; trans = u; into = false; weight = take }) ++ weighted_arc (record { place = q; trans = u; into = true; weight = give }) ≡ arcs_between g p t q u
 arcs_same g p t q u take give a b = λ i. weighted_arc (record { place = q; trans = u; into = false; weight = a i }) ++ weighted_arc (record { place = q; trans = u; into = true; weight = b i })
+
+-- a walk over all transitions is one over as many as are counted
+pub walk_is : (walk : List (ℕ × ℕ)) (w : ℕ → ℕ) (count n : ℕ) → walk ≡ weighted n w → count ≡ n → walk ≡ weighted count w
+walk_is walk w count n is same = is ∙ ap (λ k. weighted k w) (sym same)

@@ -5,12 +5,14 @@ ghost use Rattle.stg_net.specs.declared.trans.TransName.{TransName as ThisName};
 ghost use Rattle.stg_net.specs.Net.{signal_at};
 ghost use Rattle.stg_net.specs.Component.{is_one_of};
 ghost use Rattle.stg_net.specs.Ordered.{numbers_where, new_number};
-ghost use Rattle.stg_net.specs.Graph.{IsPlace, IsTrans, is_among, place_at, full_name_at, tokens_at, takes, gives, has_signal_of};
+ghost use Rattle.stg_net.specs.Graph.{IsPlace, IsTrans, is_among, place_at, full_name_at, tokens_at, has_signal_of};
 ghost use Rattle.stg_edit.specs.Compacted.{signal_shown, known_signals};
 ghost use Rattle.stg_edit.specs.Editing.{name_in};
+ghost use Rattle.stg_edit.specs.Walks.{weighted};
 ghost use Rattle.stg_edit.specs.Packing.{IsShownBy, weighted_arc, row_arcs, all_arcs};
 
 use crate::editor::Editor;
+use crate::walk::Walk;
 use std::alloc::Global;
 use stg_net::{Kind, NetArc, NoMemory, Nums, Seq, Signal, TransName};
 
@@ -164,27 +166,14 @@ pub fn list_tokens(alloc: Global, editor: &Editor, places: &[u32]) -> Result<Num
     Ok(list)
 }
 
-/// The weights of the arcs from a live place to each transition.
-fn list_taken(alloc: Global, editor: &Editor, p: u32) -> Result<Vec<u32>, NoMemory>
-    requires { IsPlace editor.now.now p }
-    ensures len { IfOk result (λ row. length row.items ≡ length editor.now.now.trans) }
-    ensures weights { IfOk result (λ row. (t : ℕ) → t < length editor.now.now.trans → slice_index row.items t ≡ takes editor.now.now t p) }
+/// For each of so many transitions the weight that the walk gives, and 0 where it gives none.
+fn row_of(alloc: Global, count: u32, walk: Walk<'_>) -> Result<Vec<u32>, NoMemory>
+    requires { (w : ℕ → ℕ) × (walk ≡ weighted count w) }
+    ensures len { IfOk result (λ row. length row.items ≡ count) }
+    ensures weights { IfOk result (λ row. (w : ℕ → ℕ) → walk.entry ≡ weighted count w → (t : ℕ) → t < count → slice_index row.items t ≡ w t) }
 {
-    let mut row = vec![in alloc; 0; editor.all_trans() as usize]?;
-    for (t, weight) in editor.takers(p) {
-        row[t as usize] = weight;
-    }
-    Ok(row)
-}
-
-/// The weights of the arcs to a live place from each transition.
-fn list_given(alloc: Global, editor: &Editor, p: u32) -> Result<Vec<u32>, NoMemory>
-    requires { IsPlace editor.now.now p }
-    ensures len { IfOk result (λ row. length row.items ≡ length editor.now.now.trans) }
-    ensures weights { IfOk result (λ row. (t : ℕ) → t < length editor.now.now.trans → slice_index row.items t ≡ gives editor.now.now t p) }
-{
-    let mut row = vec![in alloc; 0; editor.all_trans() as usize]?;
-    for (t, weight) in editor.givers(p) {
+    let mut row = vec![in alloc; 0; count as usize]?;
+    for (t, weight) in walk {
         row[t as usize] = weight;
     }
     Ok(row)
@@ -214,8 +203,9 @@ fn push_row(
     requires fit { length trans.now < 2 ^ 32 }
     ensures { OnOk result (list.new ≡ list.old ++ row_arcs editor.now.now trans.now p q) }
 {
-    let taken = list_taken(alloc, editor, p)?;
-    let given = list_given(alloc, editor, p)?;
+    let count = editor.all_trans();
+    let taken = row_of(alloc, count, editor.takers(p))?;
+    let given = row_of(alloc, count, editor.givers(p))?;
     for u in 0..trans.len() as u32 {
         let t = trans[u as usize] as usize;
         push_arc(

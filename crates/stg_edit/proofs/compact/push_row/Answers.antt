@@ -2,8 +2,18 @@ use Rattle.std.proofs.Common.{◌≡◌, ◌<◌, slice_index, length, true, fal
 use Rattle.std.proofs.lemmas.List.{get_or_default}
 use Rattle.stg_net.specs.Graph.{takes, gives}
 use Rattle.stg_edit.specs.Packing.{weighted_arc, arcs_between}
-use Rattle.stg_edit.proofs.Packing.{push_more, arcs_same}
+use Rattle.stg_edit.proofs.Packing.{push_more, arcs_same, walk_is}
 use Rattle.stg_edit.proofs.compact.push_row.Goals as goal
+
+pub row_of-requires : goal.row_of-requires
+row_of-requires c =
+    let g = c.args.editor.now.now in
+    (λ t. takes g t c.args.p, walk_is c.takers.result (λ t. takes g t c.args.p) c.all_trans-count.result (length g.trans) c.takers.ensures c.all_trans-count.ensures)
+
+pub row_of-requires-2 : goal.row_of-requires-2
+row_of-requires-2 c =
+    let g = c.args.editor.now.now in
+    (λ t. gives g t c.args.p, walk_is c.givers.result (λ t. gives g t c.args.p) c.all_trans-count.result (length g.trans) c.givers.ensures c.all_trans-count.ensures)
 
 pub loop-u-preserved : goal.loop-u-preserved
 loop-u-preserved c =
@@ -13,8 +23,9 @@ loop-u-preserved c =
     let low : t < length g.trans = c.requires.there u 0 c.loop-u-test.true in
     let take = c.index.result.now in
     let give = c.index-in-loop-u.result.now in
-    let a : take ≡ takes g t c.args.p = c.index.ensures ∙ get_or_default c.in_ok-taken.taken.items t take 0 (omega (arith, low, c.in_ok-taken.ensures.len)) ∙ c.in_ok-taken.ensures.weights t low in
-    let b : give ≡ gives g t c.args.p = c.index-in-loop-u.ensures ∙ get_or_default c.in_ok-given.given.items t give 0 (omega (arith, low, c.in_ok-given.ensures.len)) ∙ c.in_ok-given.ensures.weights t low in
+    let inside : t < c.all_trans-count.result = omega (arith, low, c.all_trans-count.ensures) in
+    let a : take ≡ takes g t c.args.p = c.index.ensures ∙ get_or_default c.in_ok-taken.taken.items t take 0 (omega (arith, inside, c.in_ok-taken.ensures.len)) ∙ c.in_ok-taken.ensures.weights (λ t. takes g t c.args.p) (walk_is c.takers.result (λ t. takes g t c.args.p) c.all_trans-count.result (length g.trans) c.takers.ensures c.all_trans-count.ensures) t inside in
+    let b : give ≡ gives g t c.args.p = c.index-in-loop-u.ensures ∙ get_or_default c.in_ok-given.given.items t give 0 (omega (arith, inside, c.in_ok-given.ensures.len)) ∙ c.in_ok-given.ensures.weights (λ t. gives g t c.args.p) (walk_is c.givers.result (λ t. gives g t c.args.p) c.all_trans-count.result (length g.trans) c.givers.ensures c.all_trans-count.ensures) t inside in
     push_more c.args.list.now c.loop-u.list c.push_arc.new.list c.push_arc-in-loop-u.new.list
     (weighted_arc (record { place = c.args.q; trans = u; into = false; weight = take })) (weighted_arc (record { place = c.args.q; trans = u; into = true; weight = give }))
     (λ v. arcs_between g c.args.p (slice_index c.args.trans.now v) c.args.q v) u
