@@ -4,6 +4,7 @@
 
 ghost use Rattle.std.specs.Prelude.{◌≡◌, ◌<◌, ◌≤◌, ◌+◌, ◌-◌, ℕ, true, false, not, length, map, IsTrue, IfOk, OnOk, OnErr, vec_capacity, ◌↔◌};
 ghost use Rattle.std.specs.List.{range_with_len};
+ghost use Rattle.stg_edit.specs.Ends.{is_place, is_take};
 ghost use Rattle.stg_edit.specs.Bare.{bare, trans_head, lone_link};
 ghost use Rattle.stg_edit.specs.Layout.{marked_places, marked_trans, died, spot_at, none, count_of, gone_at, IsGone, IsPushedArc, IsPushedPlace, IsTimed, IsLaid, EndsInArc, end_of, arc_at, side, times_of, head_of};
 ghost use Rattle.stg_edit.specs.Joined.{IsArcAllowed};
@@ -15,6 +16,7 @@ ghost use Rattle.stg_edit.specs.Room.{HasRoom, IsRoomier};
 ghost use Rattle.stg_edit.specs.Times.{IsNextAt};
 ghost use Rattle.stg_edit.specs.Walked.{IsLive, weight_of};
 
+use crate::end::{End, Way};
 use crate::links::{Link, hide_ring, pop_link, push_link, show_ring};
 use std::alloc::Global;
 use std::marker::Model;
@@ -99,34 +101,34 @@ impl Arena {
     }
 
     /// The place, or the transition, goes.
-    pub fn hide(&mut self, by_place: bool, node: u32)
-        requires range { node < count_of self.old by_place }
-        requires live { died self.old by_place node ≡ none }
+    pub fn hide(&mut self, end: End, node: u32)
+        requires range { node < count_of self.old (is_place end) }
+        requires live { died self.old (is_place end) node ≡ none }
         requires room { length self.old.log < self.old.log_room }
-        ensures { IsGone by_place node self.old self.new }
+        ensures { IsGone (is_place end) node self.old self.new }
     {
         let cells = self.arcs.len() as u32;
         let moment = self.log.len() as u32;
-        let head = self.head(by_place, node);
-        mark(&mut self.places, &mut self.trans, by_place, node, moment);
-        hide_ring(&mut self.rows, &mut self.columns, by_place, head);
+        let head = self.head(end, node);
+        mark(&mut self.places, &mut self.trans, end, node, moment);
+        hide_ring(&mut self.rows, &mut self.columns, end, head);
         self.log.push_reserved(Gone {
-            is_place: by_place,
+            is_place: end.is_place(),
             node,
             cells,
         });
     }
 
     /// The place, or the transition, which went last, comes back.
-    fn show(&mut self, by_place: bool, node: u32)
+    fn show(&mut self, end: End, node: u32)
         requires some { 0 < length self.old.log }
-        requires last { gone_at self.old (length self.old.log - 1) ≡ record { is_place = by_place; node = node; cells = length self.old.arcs } }
-        ensures { IsGone by_place node self.new self.old }
+        requires last { gone_at self.old (length self.old.log - 1) ≡ record { is_place = is_place end; node = node; cells = length self.old.arcs } }
+        ensures { IsGone (is_place end) node self.new self.old }
     {
-        let head = self.head(by_place, node);
+        let head = self.head(end, node);
         let _gone = self.log.take_last();
-        mark(&mut self.places, &mut self.trans, by_place, node, NONE);
-        show_ring(&mut self.rows, &mut self.columns, by_place, head);
+        mark(&mut self.places, &mut self.trans, end, node, NONE);
+        show_ring(&mut self.rows, &mut self.columns, end, head);
     }
 
     /// What went last comes back.
@@ -136,7 +138,7 @@ impl Arena {
         ensures { let g = gone_at self.old (length self.old.log - 1) in IsGone g.is_place g.node self.new self.old }
     {
         let gone = self.log[self.log.len() - 1];
-        self.show(gone.is_place, gone.node);
+        self.show(End::of(gone.is_place), gone.node);
     }
 
     /// A new place without arcs, behind all others.
@@ -186,50 +188,46 @@ impl Arena {
     }
 
     /// The next cell in the ring of c's place, or in that of its transition.
-    pub fn next(&self, by_place: bool, c: u32) -> u32
-        requires { IsLive self.now by_place c }
-        ensures { IsNextAt (side self.now.arcs by_place) (side self.now.arcs (not by_place)) (times_of self.now) (length self.now.log) c result }
+    pub fn next(&self, end: End, c: u32) -> u32
+        requires { IsLive self.now (is_place end) c }
+        ensures { IsNextAt (side self.now.arcs (is_place end)) (side self.now.arcs (not (is_place end))) (times_of self.now) (length self.now.log) c result }
     {
-        if by_place {
-            self.rows[c as usize].next
-        } else {
-            self.columns[c as usize].next
+        match end {
+            End::Place => self.rows[c as usize].next,
+            End::Trans => self.columns[c as usize].next,
         }
     }
 
     /// The head of the ring of a place, or of a transition.
-    pub fn head(&self, by_place: bool, node: u32) -> u32
-        requires { node < count_of self.now by_place }
-        ensures { result ≡ head_of self.now by_place node }
+    pub fn head(&self, end: End, node: u32) -> u32
+        requires { node < count_of self.now (is_place end) }
+        ensures { result ≡ head_of self.now (is_place end) node }
     {
-        if by_place {
-            self.places[node as usize].head
-        } else {
-            node
+        match end {
+            End::Place => self.places[node as usize].head,
+            End::Trans => node,
         }
     }
 
-    /// The other end of the arc c: its transition where `by_place`, and else its place.
-    pub fn far(&self, by_place: bool, c: u32) -> u32
+    /// The end of the arc c that is the other one.
+    pub fn far(&self, end: End, c: u32) -> u32
         requires { c < length self.now.arcs }
-        ensures { result ≡ end_of (not by_place) (arc_at self.now.arcs c) }
+        ensures { result ≡ end_of (not (is_place end)) (arc_at self.now.arcs c) }
     {
-        if by_place {
-            self.arcs[c as usize].trans
-        } else {
-            self.arcs[c as usize].place
+        match end {
+            End::Place => self.arcs[c as usize].trans,
+            End::Trans => self.arcs[c as usize].place,
         }
     }
 
     /// The weight of the cell out of its place, or into it.
-    pub fn weight(&self, takes: bool, c: u32) -> u32
+    pub fn weight(&self, way: Way, c: u32) -> u32
         requires { c < length self.now.arcs }
-        ensures { result ≡ weight_of takes (arc_at self.now.arcs c) }
+        ensures { result ≡ weight_of (is_take way) (arc_at self.now.arcs c) }
     {
-        if takes {
-            self.arcs[c as usize].take
-        } else {
-            self.arcs[c as usize].give
+        match way {
+            Way::Take => self.arcs[c as usize].take,
+            Way::Give => self.arcs[c as usize].give,
         }
     }
 
@@ -269,13 +267,13 @@ impl Arena {
     }
 
     /// Whether the place, or the transition, of that number is live.
-    pub fn is_live(&self, by_place: bool, node: u32) -> bool
-        ensures { IsTrue result ↔ (node < count_of self.now by_place) × (died self.now by_place node ≡ none) }
+    pub fn is_live(&self, end: End, node: u32) -> bool
+        ensures { IsTrue result ↔ (node < count_of self.now (is_place end)) × (died self.now (is_place end) node ≡ none) }
     {
-        if by_place {
-            (node as usize) < self.places.len() && self.places[node as usize].died == NONE
-        } else {
-            (node as usize) < self.trans.len() && self.trans[node as usize] == NONE
+        match end {
+            End::Place => (node as usize) < self.places.len()
+                && self.places[node as usize].died == NONE,
+            End::Trans => (node as usize) < self.trans.len() && self.trans[node as usize] == NONE,
         }
     }
 
@@ -386,17 +384,20 @@ impl Arena {
 }
 
 /// The place, or the transition, gets the moment of its removal.
-fn mark(places: &mut Vec<Spot>, trans: &mut Vec<u32>, by_place: bool, node: u32, moment: u32)
-    requires place { by_place ≡ true → node < length places.old.items }
-    requires trans { by_place ≡ false → node < length trans.old.items }
-    ensures places { places.new.items ≡ marked_places by_place node moment places.old.items }
-    ensures trans { trans.new.items ≡ marked_trans by_place node moment trans.old.items }
+fn mark(places: &mut Vec<Spot>, trans: &mut Vec<u32>, end: End, node: u32, moment: u32)
+    requires place { is_place end ≡ true → node < length places.old.items }
+    requires trans { is_place end ≡ false → node < length trans.old.items }
+    ensures places { places.new.items ≡ marked_places (is_place end) node moment places.old.items }
+    ensures trans { trans.new.items ≡ marked_trans (is_place end) node moment trans.old.items }
     ensures room { vec_capacity places.new ≡ vec_capacity places.old }
 {
-    if by_place {
-        places[node as usize].died = moment;
-    } else {
-        trans[node as usize] = moment;
+    match end {
+        End::Place => {
+            places[node as usize].died = moment;
+        }
+        End::Trans => {
+            trans[node as usize] = moment;
+        }
     }
 }
 

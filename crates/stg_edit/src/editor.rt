@@ -8,6 +8,7 @@ ghost use Rattle.stg_net.specs.Net.{IsWithin, signal_at};
 ghost use Rattle.stg_net.specs.Initial.{initial};
 ghost use Rattle.stg_net.specs.Contraction.{without_place, without_trans, contracted, pairs_round};
 ghost use Rattle.stg_net.specs.Graph.{IsPlace, IsTrans, IsDummy, tokens_at, full_name_at, is_among};
+ghost use Rattle.stg_edit.specs.Ends.{is_place};
 ghost use Rattle.stg_edit.specs.Compacted.{IsNetOf};
 ghost use Rattle.stg_edit.specs.Packing.{IsFit};
 ghost use Rattle.stg_edit.specs.Drafting.{present};
@@ -21,6 +22,7 @@ use crate::build::build;
 use crate::compact::{
     list_arcs, list_names, list_places, list_signals, list_tokens, list_trans, show_signals,
 };
+use crate::end::{End, Way};
 use crate::join::join_round;
 use crate::round::hide_round;
 use crate::walk::Walk;
@@ -115,7 +117,7 @@ impl Editor {
         ensures { IsTrue result ↔ IsPlace self.now.now p }
     {
         self.arena.sound();
-        self.arena.is_live(true, p)
+        self.arena.is_live(End::Place, p)
     }
 
     /// The tokens of a live place.
@@ -132,7 +134,7 @@ impl Editor {
         ensures { IsTrue result ↔ IsTrans self.now.now t }
     {
         self.arena.sound();
-        self.arena.is_live(false, t)
+        self.arena.is_live(End::Trans, t)
     }
 
     /// Whether the signal of a live transition isn't known.
@@ -160,7 +162,7 @@ impl Editor {
         ensures { result ≡ taken_places self.now.now t }
     {
         self.arena.sound();
-        Walk::of(&self.arena, false, true, t)
+        Walk::of(&self.arena, End::Trans, Way::Take, t)
     }
 
     /// The places to which a live transition gives, with the weights.
@@ -169,7 +171,7 @@ impl Editor {
         ensures { result ≡ given_places self.now.now t }
     {
         self.arena.sound();
-        Walk::of(&self.arena, false, false, t)
+        Walk::of(&self.arena, End::Trans, Way::Give, t)
     }
 
     /// The transitions that take from a live place, with the weights.
@@ -178,7 +180,7 @@ impl Editor {
         ensures { result ≡ taking_trans self.now.now p }
     {
         self.arena.sound();
-        Walk::of(&self.arena, true, true, p)
+        Walk::of(&self.arena, End::Place, Way::Take, p)
     }
 
     /// The transitions that give to a live place, with the weights.
@@ -187,7 +189,7 @@ impl Editor {
         ensures { result ≡ giving_trans self.now.now p }
     {
         self.arena.sound();
-        Walk::of(&self.arena, true, false, p)
+        Walk::of(&self.arena, End::Place, Way::Give, p)
     }
 
     /// The number of live places.
@@ -280,7 +282,7 @@ impl Editor {
         ensures undone { self.new.undone ≡ self.old.undone }
         ensures signals { self.new.signals ≡ self.old.signals }
     {
-        self.delete(true, p);
+        self.delete(End::Place, p);
     }
 
     /// Deletes a dummy with its arcs.
@@ -293,14 +295,14 @@ impl Editor {
         ensures undone { self.new.undone ≡ self.old.undone }
         ensures signals { self.new.signals ≡ self.old.signals }
     {
-        self.delete(false, t);
+        self.delete(End::Trans, t);
     }
 
     /// Deletes the place, or the transition, with its arcs.
-    fn delete(&mut self, by_place: bool, node: u32)
-        requires live { IsNode by_place self.old.now node }
+    fn delete(&mut self, end: End, node: u32)
+        requires live { IsNode (is_place end) self.old.now node }
         requires room { 0 < self.old.spare.edits }
-        ensures now { self.new.now ≡ without_node by_place self.old.now node }
+        ensures now { self.new.now ≡ without_node (is_place end) self.old.now node }
         ensures past { self.new.past ≡ self.old.past ++ self.old.now ∷ [] }
         ensures spare { self.new.spare ≡ one_edit_less self.old.spare }
         ensures undone { self.new.undone ≡ self.old.undone }
@@ -308,7 +310,7 @@ impl Editor {
     {
         self.arena.sound();
         let mark = make_mark(&self.arena);
-        self.arena.hide(by_place, node);
+        self.arena.hide(end, node);
         self.arena.sound();
         self.marks.push_reserved(mark);
     }
@@ -333,7 +335,7 @@ impl Editor {
         self.arena.sound();
         hide_round(&mut self.arena, t);
         self.arena.sound();
-        self.arena.hide(false, t);
+        self.arena.hide(End::Trans, t);
         self.arena.sound();
         self.marks.push_reserved(mark);
     }

@@ -1,6 +1,7 @@
 //! New places that stand for two: their arcs are merged.
 
 ghost use Rattle.std.specs.Prelude.{◌≡◌, ◌<◌, ◌≤◌, ◌+◌, ◌==◌, ◌-◌, ◌^◌, ◌∷◌, [], true, false, cond, min, length};
+ghost use Rattle.stg_edit.specs.Ends.{is_take};
 ghost use Rattle.stg_edit.specs.Layout.{none, arc_at, died};
 ghost use Rattle.stg_edit.specs.Made.{CanMake, IsMade, pair_of, pairs_at, pairs_with, pairs_of, after_at, before_at};
 ghost use Rattle.stg_edit.specs.Grown.{IsGrown};
@@ -8,27 +9,28 @@ ghost use Rattle.stg_edit.specs.Walked.{IsLive, weight_of};
 ghost use Rattle.stg_edit.specs.Joined.{far, share_at, IsStep, IsPut, IsKept, IsPutAllowed, CanJoin, IsJoined};
 
 use crate::arena::{Arena, NONE};
+use crate::end::{End, Way};
 
 /// The weight at the cell x, where it is an arc of the transition u.
-fn share(arena: &Arena, takes: bool, x: u32, u: u32) -> u32
+fn share(arena: &Arena, way: Way, x: u32, u: u32) -> u32
     requires { x < length arena.now.arcs }
-    ensures { result ≡ share_at arena.now takes x u }
+    ensures { result ≡ share_at arena.now (is_take way) x u }
 {
-    if arena.far(true, x) == u {
-        arena.weight(takes, x)
+    if arena.far(End::Place, x) == u {
+        arena.weight(way, x)
     } else {
         0
     }
 }
 
 /// What the cells x and y have with the transition u together.
-fn shares(arena: &Arena, takes: bool, x: u32, y: u32, u: u32) -> u32
+fn shares(arena: &Arena, way: Way, x: u32, y: u32, u: u32) -> u32
     requires first { x < length arena.now.arcs }
     requires second { y < length arena.now.arcs }
-    requires fit { share_at arena.now takes x u + share_at arena.now takes y u < 2 ^ 32 }
-    ensures { result ≡ share_at arena.now takes x u + share_at arena.now takes y u }
+    requires fit { share_at arena.now (is_take way) x u + share_at arena.now (is_take way) y u < 2 ^ 32 }
+    ensures { result ≡ share_at arena.now (is_take way) x u + share_at arena.now (is_take way) y u }
 {
-    share(arena, takes, x, u) + share(arena, takes, y, u)
+    share(arena, way, x, u) + share(arena, way, y, u)
 }
 
 /// The cell after x, where x is an arc of the transition u, and else x.
@@ -36,8 +38,8 @@ fn step_past(arena: &Arena, x: u32, u: u32) -> u32
     requires { IsLive arena.now true x }
     ensures { IsStep arena.now u x result }
 {
-    if arena.far(true, x) == u {
-        arena.next(true, x)
+    if arena.far(End::Place, x) == u {
+        arena.next(End::Place, x)
     } else {
         x
     }
@@ -49,8 +51,8 @@ fn least(arena: &Arena, x: u32, y: u32) -> u32
     requires second { y < length arena.now.arcs }
     ensures { result ≡ min (far arena.now x) (far arena.now y) }
 {
-    let a = arena.far(true, x);
-    let b = arena.far(true, y);
+    let a = arena.far(End::Place, x);
+    let b = arena.far(End::Place, y);
     if a < b { a } else { b }
 }
 
@@ -79,13 +81,13 @@ pub fn join_rows(arena: &mut Arena, p: u32, q: u32, t: u32)
     ensures { IsJoined arena.old arena.new p q t (length arena.old.places - 1) }
 {
     arena.sound();
-    let mut x = arena.next(true, arena.head(true, p));
-    let mut y = arena.next(true, arena.head(true, q));
+    let mut x = arena.next(End::Place, arena.head(End::Place, p));
+    let mut y = arena.next(End::Place, arena.head(End::Place, q));
     let mut u = least(arena, x, y);
     while u != NONE {
         arena.sound();
-        let take = shares(arena, true, x, y, u);
-        let give = shares(arena, false, x, y, u);
+        let take = shares(arena, Way::Take, x, y, u);
+        let give = shares(arena, Way::Give, x, y, u);
         let past_x = step_past(arena, x, u);
         let past_y = step_past(arena, y, u);
         put(arena, t, u, take, give);
@@ -114,8 +116,8 @@ fn join_at(arena: &mut Arena, t: u32, p: u32, y: u32)
     requires can { CanMake t (pair_of arena.old p y) arena.old }
     ensures { IsMade t (pair_of arena.old p y) arena.old arena.new }
 {
-    if arena.weight(false, y) > 0 {
-        join(arena, t, p, arena.far(false, y));
+    if arena.weight(Way::Give, y) > 0 {
+        join(arena, t, p, arena.far(End::Trans, y));
     }
 }
 
@@ -127,10 +129,10 @@ fn join_after(arena: &mut Arena, t: u32, p: u32)
     ensures { IsMade t (pairs_with p (after_at arena.old t)) arena.old arena.new }
 {
     arena.sound();
-    let mut y = arena.next(false, t);
+    let mut y = arena.next(End::Trans, t);
     while y != t {
         arena.sound();
-        let next = arena.next(false, y);
+        let next = arena.next(End::Trans, y);
         join_at(arena, t, p, y);
         y = next;
     }
@@ -145,8 +147,8 @@ fn join_from(arena: &mut Arena, t: u32, x: u32)
     requires can { CanMake t (pairs_at arena.old t x) arena.old }
     ensures { IsMade t (pairs_at arena.old t x) arena.old arena.new }
 {
-    if arena.weight(true, x) > 0 {
-        join_after(arena, t, arena.far(false, x));
+    if arena.weight(Way::Take, x) > 0 {
+        join_after(arena, t, arena.far(End::Trans, x));
     }
 }
 
@@ -158,10 +160,10 @@ pub fn join_round(arena: &mut Arena, t: u32)
     ensures { IsMade t (pairs_of arena.old t (before_at arena.old t)) arena.old arena.new }
 {
     arena.sound();
-    let mut x = arena.next(false, t);
+    let mut x = arena.next(End::Trans, t);
     while x != t {
         arena.sound();
-        let next = arena.next(false, x);
+        let next = arena.next(End::Trans, x);
         join_from(arena, t, x);
         arena.sound();
         x = next;

@@ -5,6 +5,7 @@ mod arena;
 mod build;
 mod compact;
 mod editor;
+mod end;
 mod join;
 mod links;
 mod round;

@@ -1,9 +1,12 @@
 //! Cells linked in rings, on one side of the arena.
 
 ghost use Rattle.std.specs.Prelude.{◌≡◌, ◌<◌, ◌+◌, ◌-◌, ◌++◌, ◌∷◌, [], List, not, length, vec_len, vec_capacity};
+ghost use Rattle.stg_edit.specs.Ends.{is_place};
 ghost use Rattle.stg_edit.specs.Times.{IsSameBelow};
 ghost use Rattle.stg_edit.specs.declared.links.Link.{Link as TheLink};
 ghost use Rattle.stg_edit.specs.Links.{Frame, links_of, next_at, prev_at, unlinked, relinked, CanHide, IsHidden, CanShow, IsShown};
+
+use crate::end::End;
 
 /// The cells before and after a cell in its ring.
 #[derive(Clone, Copy)]
@@ -61,34 +64,40 @@ fn show(own: &[Link], other: &mut [Link], head: u32)
 }
 
 /// The ring of a place, or of a transition, is taken out of those of the other side.
-pub fn hide_ring(rows: &mut Vec<Link>, columns: &mut Vec<Link>, by_place: bool, head: u32)
-    requires { (f : Frame) × CanHide f (links_of by_place rows.old.items columns.old.items) (links_of (not by_place) rows.old.items columns.old.items) head }
-    ensures ring { (f : Frame) → CanHide f (links_of by_place rows.old.items columns.old.items) (links_of (not by_place) rows.old.items columns.old.items) head → IsHidden f head f.size (links_of (not by_place) rows.old.items columns.old.items) (links_of (not by_place) rows.new.items columns.new.items) }
-    ensures kept { links_of by_place rows.new.items columns.new.items ≡ links_of by_place rows.old.items columns.old.items }
-    ensures len { length (links_of (not by_place) rows.new.items columns.new.items) ≡ length (links_of (not by_place) rows.old.items columns.old.items) }
+pub fn hide_ring(rows: &mut Vec<Link>, columns: &mut Vec<Link>, end: End, head: u32)
+    requires { (f : Frame) × CanHide f (links_of (is_place end) rows.old.items columns.old.items) (links_of (not (is_place end)) rows.old.items columns.old.items) head }
+    ensures ring { (f : Frame) → CanHide f (links_of (is_place end) rows.old.items columns.old.items) (links_of (not (is_place end)) rows.old.items columns.old.items) head → IsHidden f head f.size (links_of (not (is_place end)) rows.old.items columns.old.items) (links_of (not (is_place end)) rows.new.items columns.new.items) }
+    ensures kept { links_of (is_place end) rows.new.items columns.new.items ≡ links_of (is_place end) rows.old.items columns.old.items }
+    ensures len { length (links_of (not (is_place end)) rows.new.items columns.new.items) ≡ length (links_of (not (is_place end)) rows.old.items columns.old.items) }
     ensures rows_room { vec_capacity rows.new ≡ vec_capacity rows.old }
     ensures columns_room { vec_capacity columns.new ≡ vec_capacity columns.old }
 {
-    if by_place {
-        hide(rows, columns, head);
-    } else {
-        hide(columns, rows, head);
+    match end {
+        End::Place => {
+            hide(rows, columns, head);
+        }
+        End::Trans => {
+            hide(columns, rows, head);
+        }
     }
 }
 
 /// The ring of a place, or of a transition, is put back into those of the other side.
-pub fn show_ring(rows: &mut Vec<Link>, columns: &mut Vec<Link>, by_place: bool, head: u32)
-    requires { (f : Frame) × CanShow f (links_of by_place rows.old.items columns.old.items) (links_of (not by_place) rows.old.items columns.old.items) head }
-    ensures ring { (f : Frame) → CanShow f (links_of by_place rows.old.items columns.old.items) (links_of (not by_place) rows.old.items columns.old.items) head → IsShown f head f.size (links_of (not by_place) rows.old.items columns.old.items) (links_of (not by_place) rows.new.items columns.new.items) }
-    ensures kept { links_of by_place rows.new.items columns.new.items ≡ links_of by_place rows.old.items columns.old.items }
-    ensures len { length (links_of (not by_place) rows.new.items columns.new.items) ≡ length (links_of (not by_place) rows.old.items columns.old.items) }
+pub fn show_ring(rows: &mut Vec<Link>, columns: &mut Vec<Link>, end: End, head: u32)
+    requires { (f : Frame) × CanShow f (links_of (is_place end) rows.old.items columns.old.items) (links_of (not (is_place end)) rows.old.items columns.old.items) head }
+    ensures ring { (f : Frame) → CanShow f (links_of (is_place end) rows.old.items columns.old.items) (links_of (not (is_place end)) rows.old.items columns.old.items) head → IsShown f head f.size (links_of (not (is_place end)) rows.old.items columns.old.items) (links_of (not (is_place end)) rows.new.items columns.new.items) }
+    ensures kept { links_of (is_place end) rows.new.items columns.new.items ≡ links_of (is_place end) rows.old.items columns.old.items }
+    ensures len { length (links_of (not (is_place end)) rows.new.items columns.new.items) ≡ length (links_of (not (is_place end)) rows.old.items columns.old.items) }
     ensures rows_room { vec_capacity rows.new ≡ vec_capacity rows.old }
     ensures columns_room { vec_capacity columns.new ≡ vec_capacity columns.old }
 {
-    if by_place {
-        show(rows, columns, head);
-    } else {
-        show(columns, rows, head);
+    match end {
+        End::Place => {
+            show(rows, columns, head);
+        }
+        End::Trans => {
+            show(columns, rows, head);
+        }
     }
 }
 

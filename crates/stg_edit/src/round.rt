@@ -5,13 +5,14 @@ ghost use Rattle.stg_edit.specs.Layout.{none, arc_at, died};
 ghost use Rattle.stg_edit.specs.Hidden.{weights_at, IsHiddenAt, IsRoundHidden};
 
 use crate::arena::Arena;
+use crate::end::{End, Way};
 
 /// Whether the cell has no weight in either direction.
 fn is_bare(arena: &Arena, x: u32) -> bool
     requires { x < length arena.now.arcs }
     ensures { IsTrue result ↔ (weights_at arena.now x ≡ 0) }
 {
-    arena.weight(true, x) == 0 && arena.weight(false, x) == 0
+    arena.weight(Way::Take, x) == 0 && arena.weight(Way::Give, x) == 0
 }
 
 /// The place at the cell goes, where the cell has a weight.
@@ -25,7 +26,7 @@ fn hide_at(arena: &mut Arena, x: u32)
     if is_bare(arena, x) {
         return;
     }
-    arena.hide(true, arena.far(false, x));
+    arena.hide(End::Place, arena.far(End::Trans, x));
 }
 
 /// The places that t takes from or gives to go.
@@ -36,10 +37,10 @@ pub fn hide_round(arena: &mut Arena, t: u32)
     ensures { IsRoundHidden t none arena.old arena.new }
 {
     arena.sound();
-    let mut x = arena.next(false, t);
+    let mut x = arena.next(End::Trans, t);
     while x != t {
         arena.sound();
-        let next = arena.next(false, x);
+        let next = arena.next(End::Trans, x);
         hide_at(arena, x);
         x = next;
     }

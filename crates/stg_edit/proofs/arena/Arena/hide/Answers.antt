@@ -1,4 +1,5 @@
 use Rattle.std.proofs.Common.{rules, ◌≡◌, ◌<◌, ◌++◌, ◌∷◌, [], ℕ, true, not, length, subst, sym, ap, ◌∙◌, arith}
+use Rattle.stg_edit.specs.Ends.{is_place}
 use Rattle.stg_edit.specs.Links.{links_of, CanHide, IsHidden}
 use Rattle.stg_edit.specs.Times.{frame_at}
 use Rattle.stg_edit.specs.Layout.{Layout, none, died, count_of, side, times_of, head_of, marked_places, marked_trans, IsGone}
@@ -10,7 +11,7 @@ use Rattle.stg_edit.proofs.arena.Arena.hide.Goals as goal
 pub hide_ring-requires : goal.hide_ring-requires
 hide_ring-requires c =
     let l = layout c.self.inside in
-    let b = c.args.by_place in
+    let b = (is_place c.args.end) in
     let k = c.args.node in
     let rows = c.self.inside.rows.items in
     let columns = c.self.inside.columns.items in
@@ -25,7 +26,7 @@ hide_ring-requires c =
 pub invariant_of-self : goal.invariant_of-self
 invariant_of-self c =
     let l = layout c.self.inside in
-    let b = c.args.by_place in
+    let b = (is_place c.args.end) in
     let k = c.args.node in
     let rows = c.self.inside.rows.items in
     let columns = c.self.inside.columns.items in
@@ -38,7 +39,7 @@ invariant_of-self c =
     let cells : c.len-cells.result ≡ length c.self.inside.arcs.items = search rules in
     let moment : c.len-moment.result ≡ length c.self.inside.log.items = search rules in
     let l' : Layout = record l { places = c.mark.new.places.items; trans = c.mark.new.trans.items; log = c.push_reserved.new.self.items } in
-    let gone : IsGone b k l l' = gone_marked b k l l'.places l'.trans l'.log (c.mark.ensures.places ∙ ap (λ m. marked_places b k m l.places) moment) (c.mark.ensures.trans ∙ ap (λ m. marked_trans b k m l.trans) moment) (c.push_reserved.ensures.items ∙ ap (λ n. l.log ++ record { is_place = b; node = k; cells = n } ∷ []) cells) range live in
+    let gone : IsGone b k l l' = gone_marked b k l l'.places l'.trans l'.log (c.mark.ensures.places ∙ ap (λ m. marked_places b k m l.places) moment) (c.mark.ensures.trans ∙ ap (λ m. marked_trans b k m l.trans) moment) (c.push_reserved.ensures.items ∙ (λ i. l.log ++ record { is_place = c.is_place.ensures i; node = k; cells = cells i } ∷ [])) range live in
     let f = frame_at (side l.arcs b) (side l.arcs (not b)) (times_of l) (length l.log) in
     let H : ℕ → Type 0 = λ h. CanHide f (links_of b rows columns) (links_of (not b) rows columns) h in
     let can = subst H head (to_hide b k l (links_of b rows columns) (links_of (not b) rows columns) c.self.invariant.laid c.self.invariant.timed (held_by b l rows columns held) range live) in
@@ -61,11 +62,11 @@ invariant_of-self c =
 pub returns : goal.returns
 returns c =
     let l = layout c.self.inside in
-    let b = c.args.by_place in
+    let b = (is_place c.args.end) in
     let k = c.args.node in
     let R : Layout → Type 0 = λ l. k < count_of l b in
     let cells : c.len-cells.result ≡ length c.self.inside.arcs.items = search rules in
     let moment : c.len-moment.result ≡ length c.self.inside.log.items = search rules in
-    let gone = gone_marked b k l c.mark.new.places.items c.mark.new.trans.items c.push_reserved.new.self.items (c.mark.ensures.places ∙ ap (λ m. marked_places b k m l.places) moment) (c.mark.ensures.trans ∙ ap (λ m. marked_trans b k m l.trans) moment) (c.push_reserved.ensures.items ∙ ap (λ n. l.log ++ record { is_place = b; node = k; cells = n } ∷ []) cells) (subst R (sym c.self.view_is) c.requires.range) (ap (λ l. died l b k) c.self.view_is ∙ c.requires.live) in
+    let gone = gone_marked b k l c.mark.new.places.items c.mark.new.trans.items c.push_reserved.new.self.items (c.mark.ensures.places ∙ ap (λ m. marked_places b k m l.places) moment) (c.mark.ensures.trans ∙ ap (λ m. marked_trans b k m l.trans) moment) (c.push_reserved.ensures.items ∙ (λ i. l.log ++ record { is_place = c.is_place.ensures i; node = k; cells = cells i } ∷ [])) (subst R (sym c.self.view_is) c.requires.range) (ap (λ l. died l b k) c.self.view_is ∙ c.requires.live) in
     let P : Layout → Type 0 = λ m. IsGone b k m (record l { places = c.mark.new.places.items; trans = c.mark.new.trans.items; log = c.push_reserved.new.self.items }) in
     subst P c.self.view_is gone

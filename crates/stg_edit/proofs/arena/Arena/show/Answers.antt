@@ -1,4 +1,5 @@
 use Rattle.std.proofs.Common.{◌≡◌, ◌<◌, ◌-◌, ℕ, true, not, length, subst, sym, ap, ◌∙◌, arith}
+use Rattle.stg_edit.specs.Ends.{is_place}
 use Rattle.stg_edit.specs.Links.{links_of, CanShow, IsShown}
 use Rattle.stg_edit.specs.Times.{frame_at}
 use Rattle.stg_edit.specs.Layout.{Layout, gone_at, side, times_of, head_of, IsGone}
@@ -10,7 +11,7 @@ use Rattle.stg_edit.proofs.arena.Arena.show.Goals as goal
 pub show_ring-requires : goal.show_ring-requires
 show_ring-requires c =
     let l' = layout c.self.inside in
-    let b = c.args.by_place in
+    let b = (is_place c.args.end) in
     let k = c.args.node in
     let rows = c.self.inside.rows.items in
     let columns = c.self.inside.columns.items in
@@ -26,7 +27,7 @@ show_ring-requires c =
 pub invariant_of-self : goal.invariant_of-self
 invariant_of-self c =
     let l' = layout c.self.inside in
-    let b = c.args.by_place in
+    let b = (is_place c.args.end) in
     let k = c.args.node in
     let rows = c.self.inside.rows.items in
     let columns = c.self.inside.columns.items in
@@ -59,7 +60,7 @@ invariant_of-self c =
 pub returns : goal.returns
 returns c =
     let l' = layout c.self.inside in
-    let b = c.args.by_place in
+    let b = (is_place c.args.end) in
     let k = c.args.node in
     let R : Layout → Type 0 = λ l. gone_at l (length l.log - 1) ≡ record { is_place = b; node = k; cells = length l.arcs } in
     let l : Layout = record l' { places = c.mark.new.places.items; trans = c.mark.new.trans.items; log = c.take_last-gone.new.self.items } in

@@ -1,5 +1,6 @@
 use Rattle.std.proofs.Common.{◌≡◌, ◌<◌, ◌+◌, ◌-◌, ◌++◌, ◌∷◌, [], length, false, true, subst, sym, ap, ◌∙◌, arith}
 use Rattle.std.proofs.lemmas.List.{length-append}
+use Rattle.stg_edit.specs.Ends.{is_place}
 use Rattle.stg_edit.specs.Editing.{Editing, IsNode, one_edit_less, without_node}
 use Rattle.stg_edit.specs.declared.editor.Mark.{Mark}
 use Rattle.stg_edit.specs.View.{base, spare_of}
@@ -12,25 +13,25 @@ use Rattle.stg_edit.proofs.editor.Editor.delete.Goals as goal
 
 pub hide-requires-clause-range : goal.hide-requires-clause-range
 hide-requires-clause-range c =
-    let P : Editing → Type 0 = λ v. IsNode c.args.by_place v.now c.args.node in
-    (node_lives c.args.by_place (base c.self.inside) c.args.node c.self.inside.arena c.sound.ensures.timed (subst P (sym c.self.view_is) c.requires.live)).0
+    let P : Editing → Type 0 = λ v. IsNode (is_place c.args.end) v.now c.args.node in
+    (node_lives (is_place c.args.end) (base c.self.inside) c.args.node c.self.inside.arena c.sound.ensures.timed (subst P (sym c.self.view_is) c.requires.live)).0
 
 pub hide-requires-clause-live : goal.hide-requires-clause-live
 hide-requires-clause-live c =
-    let P : Editing → Type 0 = λ v. IsNode c.args.by_place v.now c.args.node in
-    (node_lives c.args.by_place (base c.self.inside) c.args.node c.self.inside.arena c.sound.ensures.timed (subst P (sym c.self.view_is) c.requires.live)).1
+    let P : Editing → Type 0 = λ v. IsNode (is_place c.args.end) v.now c.args.node in
+    (node_lives (is_place c.args.end) (base c.self.inside) c.args.node c.self.inside.arena c.sound.ensures.timed (subst P (sym c.self.view_is) c.requires.live)).1
 
 pub hide-requires-clause-room : goal.hide-requires-clause-room
 hide-requires-clause-room c =
-    let P : Editing → Type 0 = λ v. IsNode c.args.by_place v.now c.args.node in
-    let live = node_lives c.args.by_place (base c.self.inside) c.args.node c.self.inside.arena c.sound.ensures.timed (subst P (sym c.self.view_is) c.requires.live) in
-    omega (arith, log_short c.self.inside.arena c.args.by_place c.args.node c.sound.ensures.timed live.0 live.1, c.self.invariant.log_long, c.sound.ensures.laid.places)
+    let P : Editing → Type 0 = λ v. IsNode (is_place c.args.end) v.now c.args.node in
+    let live = node_lives (is_place c.args.end) (base c.self.inside) c.args.node c.self.inside.arena c.sound.ensures.timed (subst P (sym c.self.view_is) c.requires.live) in
+    omega (arith, log_short c.self.inside.arena (is_place c.args.end) c.args.node c.sound.ensures.timed live.0 live.1, c.self.invariant.log_long, c.sound.ensures.laid.places)
 
 pub invariant_of-self : goal.invariant_of-self
 invariant_of-self c =
     let l = c.self.inside.arena in
     let l' = c.hide.new.self in
-    let b = c.args.by_place in
+    let b = (is_place c.args.end) in
     let g = c.hide.ensures in
     let m : Mark = c.make_mark-mark.result in
     record {
@@ -48,7 +49,7 @@ returns-clause-now c =
     let l = c.self.inside.arena in
     let l' = c.hide.new.self in
     let x = base c.self.inside in
-    let b = c.args.by_place in
+    let b = (is_place c.args.end) in
     ap (λ s. draft_at x l' s (length l'.places)) (log_length b c.args.node l l' c.hide.ensures)
     ∙ ap (draft_at x l' (length l.log + 1)) (c.hide.ensures.as_many true)
     ∙ draft_without b x c.args.node l l' (length l.places) c.hide.ensures c.sound.ensures.timed
@@ -61,7 +62,7 @@ returns-clause-past c =
     let x = base c.self.inside in
     let m : Mark = c.make_mark-mark.result in
     ap (past_of x l') c.push_reserved.ensures.items
-    ∙ past_more l l' c.self.inside.marks.items m c.make_mark-mark.ensures (later_gone (length l.places) c.args.by_place c.args.node l l' c.sound.ensures.timed c.hide.ensures) x c.self.invariant.marked
+    ∙ past_more l l' c.self.inside.marks.items m c.make_mark-mark.ensures (later_gone (length l.places) (is_place c.args.end) c.args.node l l' c.sound.ensures.timed c.hide.ensures) x c.self.invariant.marked
     ∙ ap (λ v. v.past ++ v.now ∷ []) c.self.view_is
 
 pub returns-clause-spare : goal.returns-clause-spare
@@ -71,4 +72,4 @@ returns-clause-spare c =
     let m : Mark = c.make_mark-mark.result in
     let edits = c.self.inside.edit_room - length marks in
     let fewer : c.self.inside.edit_room - length c.push_reserved.new.self.items ≡ edits - 1 = omega (arith, ap length c.push_reserved.ensures.items, length-append marks (m ∷ [])) in
-    ap (spare_of c.hide.new.self) fewer ∙ spare_gone c.args.by_place c.args.node l c.hide.new.self (edits - 1) c.hide.ensures ∙ ap (λ v. one_edit_less v.spare) c.self.view_is
+    ap (spare_of c.hide.new.self) fewer ∙ spare_gone (is_place c.args.end) c.args.node l c.hide.new.self (edits - 1) c.hide.ensures ∙ ap (λ v. one_edit_less v.spare) c.self.view_is
