@@ -3,7 +3,7 @@ use Rattle.std.proofs.Common.{◌^◌, ◌≡◌, ◌≢◌, ◌<◌, ◌≤◌,
 use Rattle.std.proofs.lemmas.Bool.{cases_eq, cases_lt, cond_both, ne_eqb, le-leb}
 use Rattle.stg_edit.specs.declared.arena.Arc.{Arc}
 use Rattle.stg_edit.specs.Times.{IsNextAt}
-use Rattle.stg_edit.specs.Layout.{Layout, none, arc_at, spot_at, side, died, head_of, times_of, IsLaid, IsTimed, IsPastAll}
+use Rattle.stg_edit.specs.Layout.{Layout, none, spot_at, side, died, head_of, times_of, IsLaid, IsTimed, IsPastAll}
 use Rattle.stg_edit.specs.Walked.{weight_of, IsWalking}
 use Rattle.stg_edit.specs.Drafting.{weight, weight_at}
 use Rattle.stg_edit.specs.Joined.{far, share_at, IsJoined, IsStep, IsPut, IsPutAllowed, IsKept, CanJoin, joined_weight, joined_arcs}

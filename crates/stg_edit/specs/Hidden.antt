@@ -1,7 +1,7 @@
 -- The places round a transition go.
 use Rattle.std.specs.Prelude.{◌≡◌, ◌≢◌, ◌<◌, ◌≤◌, ◌⊎◌, ◌+◌, ℕ, true, false, length}
 use Rattle.stg_edit.specs.Layout.{Layout, none, arc_at, died, IsGone}
-use Rattle.stg_edit.specs.Walked.{weight_of, IsWalking}
+use Rattle.stg_edit.specs.Walked.{weight_of}
 use Rattle.stg_edit.specs.Drafting.{weight}
 use Rattle.stg_edit.specs.Later.{IsLater, HasAllCells}
 

@@ -1,5 +1,5 @@
 -- The merge of two rows into a new one.
-use Rattle.std.specs.Prelude.{◌^◌, ◌≡◌, ◌≢◌, ◌<◌, ◌≤◌, ◌+◌, ◌-◌, ℕ, Bool, true, false, cond, min, ◌==◌, eqb, length}
+use Rattle.std.specs.Prelude.{◌^◌, ◌≡◌, ◌≢◌, ◌<◌, ◌≤◌, ◌+◌, ◌-◌, ℕ, Bool, true, false, cond, ◌==◌, eqb, length}
 use Rattle.stg_edit.specs.Times.{IsNextAt}
 use Rattle.stg_edit.specs.Layout.{Layout, none, arc_at, side, died, times_of, count_of, IsPastAll}
 use Rattle.stg_edit.specs.Walked.{weight_of, IsWalking}

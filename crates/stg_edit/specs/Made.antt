@@ -1,7 +1,7 @@
 -- New places, one for each of a list of pairs.
-use Rattle.std.specs.Prelude.{◌^◌, ◌≡◌, ◌<◌, ◌≤◌, ◌+◌, ◌==◌, [], ◌∷◌, ◌++◌, ℕ, Bool, true, false, cond, nat_lt, List, map, flat_map, length, slice_index_or, sum_by}
+use Rattle.std.specs.Prelude.{◌^◌, ◌≡◌, ◌<◌, ◌≤◌, ◌+◌, ◌==◌, [], ◌∷◌, ℕ, Bool, true, false, cond, nat_lt, List, map, flat_map, length, slice_index_or, sum_by}
 use Rattle.stg_edit.specs.Layout.{Layout, none, arc_at, spot_at, died}
-use Rattle.stg_edit.specs.Walked.{weight_of, left, IsWalking}
+use Rattle.stg_edit.specs.Walked.{weight_of}
 use Rattle.stg_edit.specs.Drafting.{weight}
 use Rattle.stg_edit.specs.Walks.{weighted}
 use Rattle.stg_edit.specs.Along.{weight_along}

@@ -1,4 +1,4 @@
-use Rattle.std.proofs.Common.{true, false, List, length, subst, sym, ap, ◌∙◌}
+use Rattle.std.proofs.Common.{List, length, subst, sym, ap, ◌∙◌}
 use Rattle.std.proofs.lemmas.List.{with_items_is}
 use Rattle.stg_edit.specs.Ends.{}
 use Rattle.stg_edit.specs.declared.links.Link.{Link}

@@ -1,4 +1,4 @@
-use Rattle.std.proofs.Common.{◌≡◌, ◌<◌, ◌-◌, ℕ, true, not, length, subst, sym, ap, ◌∙◌, arith}
+use Rattle.std.proofs.Common.{◌≡◌, ◌-◌, ℕ, true, not, length, subst, sym, ap, ◌∙◌, arith}
 use Rattle.stg_edit.specs.Ends.{is_place}
 use Rattle.stg_edit.specs.Links.{links_of, CanShow, IsShown}
 use Rattle.stg_edit.specs.Times.{frame_at}
