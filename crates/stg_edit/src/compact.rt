@@ -2,11 +2,11 @@
 
 ghost use Rattle.std.specs.Prelude.{◌≡◌, ◌<◌, ◌^◌, ◌++◌, ℕ, true, Some, All, map, length, is_some, slice_index, IfOk, OnOk};
 ghost use Rattle.stg_net.specs.declared.trans.TransName.{TransName as ThisName};
-ghost use Rattle.stg_net.specs.Net.{signal_at};
 ghost use Rattle.stg_net.specs.Component.{is_one_of};
-ghost use Rattle.stg_net.specs.Ordered.{numbers_where, new_number};
-ghost use Rattle.stg_net.specs.Graph.{IsPlace, IsTrans, is_among, place_at, full_name_at, tokens_at, has_signal_of};
-ghost use Rattle.stg_edit.specs.Compacted.{signal_shown, known_signals};
+ghost use Rattle.stg_net.specs.Ordered.{new_number};
+ghost use Rattle.stg_net.specs.Graph.{IsPlace, IsTrans, place_at, full_name_at, tokens_at, has_signal_of};
+ghost use Rattle.stg_edit.specs.Compacted.{live_trans, signal_shown, known_signals};
+ghost use Rattle.stg_edit.specs.Counted.{live_places};
 ghost use Rattle.stg_edit.specs.Editing.{name_in};
 ghost use Rattle.stg_edit.specs.Walks.{weighted};
 ghost use Rattle.stg_edit.specs.Packing.{IsShownBy, weighted_arc, row_arcs, all_arcs};
@@ -33,7 +33,7 @@ fn has_trans(editor: &Editor, t: u32) -> bool
 /// The numbers of the known signals.
 pub fn list_signals(alloc: Global, editor: &Editor) -> Result<Nums, NoMemory>
     requires { length editor.now.signals < 2 ^ 32 }
-    ensures { IfOk result (λ list. list ≡ numbers_where (λ s. is_among editor.now.now.known (signal_at editor.now.signals s).name) (length editor.now.signals)) }
+    ensures { IfOk result (λ list. list ≡ known_signals editor.now.signals editor.now.now) }
 {
     let mut list = Seq::new(alloc);
     for s in 0..editor.signals().len() as u32 {
@@ -46,7 +46,7 @@ pub fn list_signals(alloc: Global, editor: &Editor) -> Result<Nums, NoMemory>
 
 /// The numbers of the live places.
 pub fn list_places(alloc: Global, editor: &Editor) -> Result<Nums, NoMemory>
-    ensures { IfOk result (λ list. list ≡ numbers_where (λ p. is_some (place_at editor.now.now p)) (length editor.now.now.places)) }
+    ensures { IfOk result (λ list. list ≡ live_places editor.now.now) }
 {
     let mut list = Seq::new(alloc);
     for p in 0..editor.next_place() {
@@ -59,7 +59,7 @@ pub fn list_places(alloc: Global, editor: &Editor) -> Result<Nums, NoMemory>
 
 /// The numbers of the live transitions.
 pub fn list_trans(alloc: Global, editor: &Editor) -> Result<Nums, NoMemory>
-    ensures { IfOk result (λ list. list ≡ numbers_where (λ t. is_some (full_name_at editor.now.now t)) (length editor.now.now.trans)) }
+    ensures { IfOk result (λ list. list ≡ live_trans editor.now.now) }
 {
     let mut list = Seq::new(alloc);
     for t in 0..editor.all_trans() {

@@ -5,7 +5,7 @@ use Rattle.stg_net.specs.Net.{NetLists}
 use Rattle.stg_edit.specs.Counted.{live_places}
 use Rattle.stg_edit.specs.Compacted.{live_trans, known_signals, signal_shown, IsNetOf}
 use Rattle.stg_edit.specs.Packing.{IsShownBy}
-use Rattle.stg_edit.proofs.Compacting.{listed_from, known_listed, places_listed, trans_listed, all_of, kept_below, shown_by, none_hidden, trans_live, places_live, trans_below, few_trans, few_places, few_signals, listed_shows, listed_count, listed_is_net}
+use Rattle.stg_edit.proofs.Compacting.{listed_from, all_of, kept_below, shown_by, none_hidden, trans_live, places_live, trans_below, few_trans, few_places, few_signals, listed_shows, listed_count, listed_is_net}
 use Rattle.stg_net.specs.Graph.{is_among}
 use Rattle.stg_net.specs.Net.{signal_at}
 use Rattle.stg_edit.proofs.editor.Editor.net.Goals as goal
@@ -13,7 +13,7 @@ use Rattle.stg_edit.proofs.editor.Editor.net.Goals as goal
 pub show_signals-requires : goal.show_signals-requires
 show_signals-requires c =
     let e = c.args.self.now in
-    let same : c.as_slice-2.result.now ≡ known_signals e.signals e.now = c.as_slice-2.ensures ∙ c.in_ok-kept.ensures ∙ known_listed e.signals e.now in
+    let same : c.as_slice-2.result.now ≡ known_signals e.signals e.now = c.as_slice-2.ensures ∙ c.in_ok-kept.ensures in
     let long : length e.signals ≡ length c.signals.result.now = sym (ap length c.signals.ensures.value) in
     subst (λ n. All (λ k. k < n) c.as_slice-2.result.now) long
     (all_of (λ k. k < length e.signals) c.as_slice-2.result.now (known_signals e.signals e.now) same (kept_below (λ s. is_among e.now.known (signal_at e.signals s).name) (length e.signals)))
@@ -21,15 +21,15 @@ show_signals-requires c =
 pub list_names-requires-clause-live : goal.list_names-requires-clause-live
 list_names-requires-clause-live c =
     let g = c.args.self.now.now in
-    all_of (λ t. IsTrans g t) c.as_slice-5.result.now (live_trans g) (c.as_slice-5.ensures ∙ c.in_ok-trans.ensures ∙ trans_listed g) (trans_live g)
+    all_of (λ t. IsTrans g t) c.as_slice-5.result.now (live_trans g) (c.as_slice-5.ensures ∙ c.in_ok-trans.ensures) (trans_live g)
 
 pub list_names-requires-clause-known : goal.list_names-requires-clause-known
 list_names-requires-clause-known c =
     let g = c.args.self.now.now in
-    all_of (λ t. has_signal_of g.known (full_name_at g t) ≡ true) c.as_slice-5.result.now (live_trans g) (c.as_slice-5.ensures ∙ c.in_ok-trans.ensures ∙ trans_listed g) (none_hidden g c.requires)
+    all_of (λ t. has_signal_of g.known (full_name_at g t) ≡ true) c.as_slice-5.result.now (live_trans g) (c.as_slice-5.ensures ∙ c.in_ok-trans.ensures) (none_hidden g c.requires)
 
 pub list_names-requires-clause-kept : goal.list_names-requires-clause-kept
-list_names-requires-clause-kept c = c.as_slice-4.ensures ∙ c.in_ok-kept.ensures ∙ known_listed c.args.self.now.signals c.args.self.now.now
+list_names-requires-clause-kept c = c.as_slice-4.ensures ∙ c.in_ok-kept.ensures
 
 pub list_names-requires-clause-shown : goal.list_names-requires-clause-shown
 list_names-requires-clause-shown c =
@@ -42,7 +42,7 @@ list_names-requires-clause-shown c =
 pub list_names-requires-clause-fit : goal.list_names-requires-clause-fit
 list_names-requires-clause-fit c =
     let e = c.args.self.now in
-    let kept : c.as_slice-2.result.now ≡ known_signals e.signals e.now = c.as_slice-2.ensures ∙ c.in_ok-kept.ensures ∙ known_listed e.signals e.now in
+    let kept : c.as_slice-2.result.now ≡ known_signals e.signals e.now = c.as_slice-2.ensures ∙ c.in_ok-kept.ensures in
     let same : map (signal_shown e.signals c.args.own.now) (known_signals e.signals e.now) ≡ c.as_slice-3.result.now =
     sym (c.as_slice-3.ensures ∙ c.in_ok-signals.ensures ∙ (λ i. map (signal_shown (c.signals.ensures.value i) (c.as_slice.ensures i)) (kept i))) in
     subst (λ (xs : List Signal). length xs < 2 ^ 32) same (few_signals e.signals c.args.own.now e.now c.sound.ensures.signals_fit)
@@ -50,38 +50,35 @@ list_names-requires-clause-fit c =
 pub list_tokens-requires : goal.list_tokens-requires
 list_tokens-requires c =
     let g = c.args.self.now.now in
-    all_of (λ p. IsPlace g p) c.as_slice-6.result.now (live_places g) (c.as_slice-6.ensures ∙ c.in_ok-places.ensures ∙ places_listed g) (places_live g)
+    all_of (λ p. IsPlace g p) c.as_slice-6.result.now (live_places g) (c.as_slice-6.ensures ∙ c.in_ok-places.ensures) (places_live g)
 
 pub list_arcs-requires-clause-live : goal.list_arcs-requires-clause-live
 list_arcs-requires-clause-live c =
     let g = c.args.self.now.now in
-    all_of (λ p. IsPlace g p) c.as_slice-7.result.now (live_places g) (c.as_slice-7.ensures ∙ c.in_ok-places.ensures ∙ places_listed g) (places_live g)
+    all_of (λ p. IsPlace g p) c.as_slice-7.result.now (live_places g) (c.as_slice-7.ensures ∙ c.in_ok-places.ensures) (places_live g)
 
 pub list_arcs-requires-clause-there : goal.list_arcs-requires-clause-there
 list_arcs-requires-clause-there c =
     let g = c.args.self.now.now in
-    all_of (λ t. t < length g.trans) c.as_slice-8.result.now (live_trans g) (c.as_slice-8.ensures ∙ c.in_ok-trans.ensures ∙ trans_listed g) (trans_below g)
+    all_of (λ t. t < length g.trans) c.as_slice-8.result.now (live_trans g) (c.as_slice-8.ensures ∙ c.in_ok-trans.ensures) (trans_below g)
 
 pub list_arcs-requires-clause-fit : goal.list_arcs-requires-clause-fit
 list_arcs-requires-clause-fit c =
     let g = c.args.self.now.now in
-    subst (λ (xs : List ℕ). length xs < 2 ^ 32) (sym (c.as_slice-8.ensures ∙ c.in_ok-trans.ensures ∙ trans_listed g)) (few_trans g c.sound.ensures.trans_fit)
+    subst (λ (xs : List ℕ). length xs < 2 ^ 32) (sym (c.as_slice-8.ensures ∙ c.in_ok-trans.ensures)) (few_trans g c.sound.ensures.trans_fit)
 
 pub list_arcs-requires-clause-places_fit : goal.list_arcs-requires-clause-places_fit
 list_arcs-requires-clause-places_fit c =
     let g = c.args.self.now.now in
-    subst (λ (xs : List ℕ). length xs < 2 ^ 32) (sym (c.as_slice-7.ensures ∙ c.in_ok-places.ensures ∙ places_listed g)) (few_places g c.sound.ensures.places_fit)
+    subst (λ (xs : List ℕ). length xs < 2 ^ 32) (sym (c.as_slice-7.ensures ∙ c.in_ok-places.ensures)) (few_places g c.sound.ensures.places_fit)
 
 pub of-requires : goal.of-requires
 of-requires c =
     let e = c.args.self.now in
     let n : NetLists = record { signals = c.in_ok-signals.signals; trans = c.in_ok-names.names; tokens = c.in_ok-tokens.tokens; arcs = c.in_ok-arcs.arcs } in
-    let kept : c.as_slice-2.result.now ≡ known_signals e.signals e.now = c.as_slice-2.ensures ∙ c.in_ok-kept.ensures ∙ known_listed e.signals e.now in
-    let trans : c.in_ok-trans.trans ≡ live_trans e.now = c.in_ok-trans.ensures ∙ trans_listed e.now in
-    let places : c.in_ok-places.places ≡ live_places e.now = c.in_ok-places.ensures ∙ places_listed e.now in
     let listed =
     listed_from e c.args.own.now n c.as_slice-3.result.now c.as_slice-2.result.now c.as_slice-5.result.now c.as_slice-6.result.now c.as_slice-7.result.now c.as_slice-8.result.now
-    kept (c.as_slice-5.ensures ∙ trans) (c.as_slice-6.ensures ∙ places) (c.as_slice-7.ensures ∙ places) (c.as_slice-8.ensures ∙ trans)
+    (c.as_slice-2.ensures ∙ c.in_ok-kept.ensures) (c.as_slice-5.ensures ∙ c.in_ok-trans.ensures) (c.as_slice-6.ensures ∙ c.in_ok-places.ensures) (c.as_slice-7.ensures ∙ c.in_ok-places.ensures) (c.as_slice-8.ensures ∙ c.in_ok-trans.ensures)
     (c.in_ok-signals.ensures ∙ (λ i. map (signal_shown (c.signals.ensures.value i) (c.as_slice.ensures i)) c.as_slice-2.result.now))
     c.as_slice-3.ensures c.in_ok-names.ensures.names c.in_ok-names.ensures.there c.in_ok-tokens.ensures c.in_ok-arcs.ensures in
     listed_is_net e c.args.own.now n c.sound.ensures listed
@@ -90,12 +87,9 @@ pub returns-clause-value : goal.returns-clause-value
 returns-clause-value c =
     let e = c.args.self.now in
     let n : NetLists = record { signals = c.in_ok-signals.signals; trans = c.in_ok-names.names; tokens = c.in_ok-tokens.tokens; arcs = c.in_ok-arcs.arcs } in
-    let kept : c.as_slice-2.result.now ≡ known_signals e.signals e.now = c.as_slice-2.ensures ∙ c.in_ok-kept.ensures ∙ known_listed e.signals e.now in
-    let trans : c.in_ok-trans.trans ≡ live_trans e.now = c.in_ok-trans.ensures ∙ trans_listed e.now in
-    let places : c.in_ok-places.places ≡ live_places e.now = c.in_ok-places.ensures ∙ places_listed e.now in
     let listed =
     listed_from e c.args.own.now n c.as_slice-3.result.now c.as_slice-2.result.now c.as_slice-5.result.now c.as_slice-6.result.now c.as_slice-7.result.now c.as_slice-8.result.now
-    kept (c.as_slice-5.ensures ∙ trans) (c.as_slice-6.ensures ∙ places) (c.as_slice-7.ensures ∙ places) (c.as_slice-8.ensures ∙ trans)
+    (c.as_slice-2.ensures ∙ c.in_ok-kept.ensures) (c.as_slice-5.ensures ∙ c.in_ok-trans.ensures) (c.as_slice-6.ensures ∙ c.in_ok-places.ensures) (c.as_slice-7.ensures ∙ c.in_ok-places.ensures) (c.as_slice-8.ensures ∙ c.in_ok-trans.ensures)
     (c.in_ok-signals.ensures ∙ (λ i. map (signal_shown (c.signals.ensures.value i) (c.as_slice.ensures i)) c.as_slice-2.result.now))
     c.as_slice-3.ensures c.in_ok-names.ensures.names c.in_ok-names.ensures.there c.in_ok-tokens.ensures c.in_ok-arcs.ensures in
     subst (IsNetOf e c.args.own.now) (sym c.of.ensures) (listed_shows e c.args.own.now n listed)
@@ -104,12 +98,9 @@ pub returns-clause-arcs : goal.returns-clause-arcs
 returns-clause-arcs c =
     let e = c.args.self.now in
     let n : NetLists = record { signals = c.in_ok-signals.signals; trans = c.in_ok-names.names; tokens = c.in_ok-tokens.tokens; arcs = c.in_ok-arcs.arcs } in
-    let kept : c.as_slice-2.result.now ≡ known_signals e.signals e.now = c.as_slice-2.ensures ∙ c.in_ok-kept.ensures ∙ known_listed e.signals e.now in
-    let trans : c.in_ok-trans.trans ≡ live_trans e.now = c.in_ok-trans.ensures ∙ trans_listed e.now in
-    let places : c.in_ok-places.places ≡ live_places e.now = c.in_ok-places.ensures ∙ places_listed e.now in
     let listed =
     listed_from e c.args.own.now n c.as_slice-3.result.now c.as_slice-2.result.now c.as_slice-5.result.now c.as_slice-6.result.now c.as_slice-7.result.now c.as_slice-8.result.now
-    kept (c.as_slice-5.ensures ∙ trans) (c.as_slice-6.ensures ∙ places) (c.as_slice-7.ensures ∙ places) (c.as_slice-8.ensures ∙ trans)
+    (c.as_slice-2.ensures ∙ c.in_ok-kept.ensures) (c.as_slice-5.ensures ∙ c.in_ok-trans.ensures) (c.as_slice-6.ensures ∙ c.in_ok-places.ensures) (c.as_slice-7.ensures ∙ c.in_ok-places.ensures) (c.as_slice-8.ensures ∙ c.in_ok-trans.ensures)
     (c.in_ok-signals.ensures ∙ (λ i. map (signal_shown (c.signals.ensures.value i) (c.as_slice.ensures i)) c.as_slice-2.result.now))
     c.as_slice-3.ensures c.in_ok-names.ensures.names c.in_ok-names.ensures.there c.in_ok-tokens.ensures c.in_ok-arcs.ensures in
     ap (λ (m : NetLists). length m.arcs) c.of.ensures ∙ listed_count e c.args.own.now n c.sound.ensures listed
