@@ -94,8 +94,8 @@ impl Editor {
         })
     }
 
-    /// Makes at least so much spare. There is `NoMemory` also where the edits, places or arcs, those
-    /// that are there among them, would pass 32 bits.
+    /// Makes at least so much spare. `NoMemory` comes also where the edits, places or arcs would
+    /// altogether pass 32 bits.
     pub fn reserve(&mut self, edits: u32, places: u32, arcs: u32) -> Result<(), NoMemory>
         ensures ok { OnOk result (IsAsMuch (record { edits = edits; places = places; arcs = arcs }) self.new.spare) }
         ensures spare { IsAsMuch self.old.spare self.new.spare }
