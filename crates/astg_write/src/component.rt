@@ -25,7 +25,7 @@ fn push_lines(alloc: Global, text: &mut Text, prefix: &[u8], net: &Net) -> Resul
     text.extend_from_slice(b".end\n")
 }
 
-/// Writes the net as the component of that number.
+/// Writes the net as the component of that number. Where the net is in order, `read_part` gives it back.
 ///
 /// The names are asked to have their form so that the text can be read again.
 pub fn write_net(alloc: Global, net: &Net, part: u32) -> Result<Text, NoMemory>

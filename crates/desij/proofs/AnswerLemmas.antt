@@ -32,8 +32,8 @@ short false x e a is = refl
 short true x e a is = cc
 
 -- a text that stands for a specification is short
-pub stands_short : (text : List ℕ) (s : SpecLists) → StandsFor SPEC text s → length text ≤ 1048576
-stands_short text s stands = ltb-false 1048576 (length text) (short (nat_lt 1048576 (length text)) _ _ stands.meaning stands.reads)
+pub stands_short : (text : List ℕ) (s : SpecLists) → StandsFor SPEC text s → length text ≤ SPEC.bytes
+stands_short text s stands = ltb-false SPEC.bytes (length text) (short (nat_lt SPEC.bytes (length text)) _ _ stands.meaning stands.reads)
 
 -- a text without clashes isn't refused
 pub not_both : (text line : List ℕ) → IsAcceptable text → IsRefusedBy text line → ⊥

@@ -1,14 +1,14 @@
--- How a run ends whose text is accepted or refused.
-use Rattle.std.proofs.Common.{◌≡◌, ◌++◌, ◌<◌, ℕ, List, [], Option, None, Some, IsSome, IfSome, inl, inr, ap, ◌∙◌, append-nil, subst, length, arith}
+-- How a run ends whose text is accepted.
+use Rattle.std.proofs.Common.{◌≡◌, ◌++◌, ◌<◌, ℕ, List, [], Option, None, Some, IsSome, IfSome, inr, ap, ◌∙◌, append-nil, subst, length, arith}
 use Rattle.std.specs.Option.{option_map}
 use Rattle.std.proofs.lemmas.Bool.{false≢true}
 use Rattle.desij.specs.Outside.{SeenSource, named}
-use Rattle.desij.specs.Reading.{ReadsUpTo, ReadsWhole}
+use Rattle.desij.specs.Reading.{ReadsUpTo, ReadsWhole, most_read}
 use Rattle.desij.specs.Answering.{HasAnswer}
 use Rattle.stg_decomp.specs.declared.part.Part.{Part}
 use Rattle.desij.proofs.AnswerLemmas.{stands_short}
-use Rattle.desij.specs.Ends.{Ends, EndsRefusal, Finishes}
-use Rattle.desij.specs.Run.{Seen, IsAccepted, IsRefused}
+use Rattle.desij.specs.Ends.{Ends, Finishes}
+use Rattle.desij.specs.Run.{Seen, IsAccepted}
 use Rattle.desij.specs.declared.status.Status.{Status}
 use Rattle.desij.specs.declared.status.Status.TheVariants.{Done, BadWords, Refused, ReadFault, WriteFault, PrintFault, NoMemory, ServeFault}
 
@@ -37,21 +37,9 @@ reads_whole most name text old new read short = record {
 }
 
 -- a text that was read and has an answer is accepted
-pub is_accepted : (name text again : List ℕ) (parts : List Part) (old new : SeenSource) → ReadsUpTo 1048577 name text old new → again ≡ text → HasAnswer again parts → IsAccepted name parts old new
+pub is_accepted : (name text again : List ℕ) (parts : List Part) (old new : SeenSource) → ReadsUpTo most_read name text old new → again ≡ text → HasAnswer again parts → IsAccepted name parts old new
 is_accepted name text again parts old new read same answer = record {
   text = text;
-  read = reads_whole 1048577 name text old new read (omega (arith, stands_short again answer.spec answer.stands, ap (λ (l : List ℕ). length l) same));
+  read = reads_whole most_read name text old new read (omega (arith, stands_short again answer.spec answer.stands, ap (λ (l : List ℕ). length l) same));
   answer = let P : List ℕ → Type 0 = λ t. HasAnswer t parts in subst P same answer;
 }
-
--- where the text is refused, the run ends as the printing of its line ends
-pub refused_ends : (name line : List ℕ) (s : Status) (old new : Seen) → IsRefused name line old.source new.source → new.shelf ≡ old.shelf
-    → EndsRefusal line s old.sink new.sink → Ends (Some name) s old new
-refused_ends name line Refused old new refused shelf ends = record { line = line; source = refused; shelf = shelf; sink = ends }
-refused_ends name line PrintFault old new refused shelf ends = inl (record { line = line; source = refused; shelf = shelf; sink = ends })
-refused_ends name line Done old new refused shelf ends = absurd ends
-refused_ends name line BadWords old new refused shelf ends = absurd ends
-refused_ends name line ReadFault old new refused shelf ends = absurd ends
-refused_ends name line WriteFault old new refused shelf ends = absurd ends
-refused_ends name line NoMemory old new refused shelf ends = absurd ends
-refused_ends name line ServeFault old new refused shelf ends = absurd ends

@@ -8,9 +8,8 @@ use Rattle.astg_read.specs.declared.rule.Rule.TheVariants.{NoGraph}
 use Rattle.astg_read.specs.Reading.{Meaning, Fault, reading}
 use Rattle.stg_partition.specs.declared.group.Group.{Group}
 use Rattle.stg_decomp.specs.declared.part.Part.{Part}
-use Rattle.stg_decomp.specs.Parts.{parts_of}
-use Rattle.desij.specs.Answering.{part_bytes}
-use Rattle.desij.specs.Files.{part_name}
+use Rattle.stg_decomp.specs.Parts.{nets_of, parts_of}
+use Rattle.desij.specs.Files.{part_name, net_bytes}
 use Rattle.desij.specs.Words.{file_of}
 use Rattle.desij.specs.Printing.{printed, count_text, signal_counts, net_sizes, part_line}
 
@@ -43,7 +42,7 @@ unfolding digits count_text signal_counts net_sizes part_line
 c_element-printed = refl
 
 -- the one file of the C-element
-c_element-file : option_map (λ parts. part_bytes parts 0) (parts_in (reading false SPEC c_element)) ≡ Some (
+c_element-file : option_map (λ parts. net_bytes (nets_of parts) 0) (parts_in (reading false SPEC c_element)) ≡ Some (
     codes ".model part1\n"
     ++ codes ".inputs a b\n"
     ++ codes ".outputs c\n"

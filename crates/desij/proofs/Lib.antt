@@ -4,3 +4,4 @@ pub mod AnswerLemmas
 pub mod RunLemmas
 pub mod Examples
 pub mod EndLemmas
+pub mod PutLemmas

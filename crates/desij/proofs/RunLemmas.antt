@@ -1,18 +1,16 @@
 -- What the end of a run tells of its status.
-use Rattle.std.proofs.Common.{◌≡◌, ℕ, ◌≤◌, ◌<◌, ◌⊎◌, List, [], ◌++◌, Option, None, Some, IsSome, IsSomeAnd, IfSome, inl, inr, refl, sym, ap, ◌∙◌, subst, zero, suc, ◌+◌, length, length-append, arith, append-nil}
+use Rattle.std.proofs.Common.{◌≡◌, ℕ, ◌≤◌, ◌<◌, ◌⊎◌, List, [], ◌++◌, Option, None, Some, IsSome, IsSomeAnd, IfSome, inl, inr, refl, sym, ap, ◌∙◌, subst, length, length-append, arith, append-nil}
 use Rattle.std.specs.Option.{option_map}
 use Rattle.std.proofs.lemmas.Bool.{false≢true}
-use Rattle.std.specs.FinMap.{insert}
-use Rattle.std.proofs.Math.ListN.{get_or-map}
 use Rattle.std.proofs.lemmas.List.{length-map}
-use Rattle.astg_write.specs.ComponentText.{component_text}
+use Rattle.stg_net.specs.declared.limits.TheConstants.Limits.{SPEC}
 use Rattle.stg_decomp.specs.declared.part.Part.{Part}
-use Rattle.stg_decomp.specs.Parts.{no_part, part_at, nets_of}
+use Rattle.stg_decomp.specs.Parts.{nets_of}
 use Rattle.desij.specs.Answering.{IsAcceptable, IsRefusable}
-use Rattle.desij.specs.Files.{part_name, with_parts, HasParts, net_at, with_nets}
+use Rattle.desij.specs.Files.{HasParts, with_nets}
 use Rattle.desij.specs.Ends.{Ends}
 use Rattle.desij.specs.Outside.{Files, SeenSource, named}
-use Rattle.desij.specs.Reading.{ReadsUpTo, ReadsWhole, IsMissing}
+use Rattle.desij.specs.Reading.{ReadsUpTo, ReadsWhole, IsMissing, most_read}
 use Rattle.desij.specs.Run.{Seen, NoneRose, IsRefused, IsAccepted, TellsAccepted, TellsRefused, WritesParts, WritesComponents}
 use Rattle.desij.specs.declared.status.Status.{Status}
 use Rattle.desij.specs.declared.status.Status.TheVariants.{Done, BadWords, Refused, ReadFault, WriteFault, PrintFault, NoMemory, ServeFault}
@@ -23,11 +21,11 @@ told_by_name : (files : Option Files) (name text : List ℕ) → named files nam
 told_by_name None name text e = cc
 told_by_name (Some m) name text e = refl
 
--- the front of an accepted text that is as long as may be read is the whole of it
-front_is_whole : (whole text : List ℕ) (left : Option (List ℕ)) → Some whole ≡ option_map (λ (bs : List ℕ). text ++ bs) left
-    → (length text < 1048577 → IfSome left (λ bs. bs ≡ [])) → length whole ≤ 1048576 → whole ≡ text
-front_is_whole whole text None e rest short = cc
-front_is_whole whole text (Some left) e rest short =
+-- the prefix of an accepted text that is as long as may be read is the whole of it
+prefix_is_whole : (whole text : List ℕ) (left : Option (List ℕ)) → Some whole ≡ option_map (λ (bs : List ℕ). text ++ bs) left
+    → (length text < most_read → IfSome left (λ bs. bs ≡ [])) → length whole ≤ SPEC.bytes → whole ≡ text
+prefix_is_whole whole text None e rest short = cc
+prefix_is_whole whole text (Some left) e rest short =
     let same : whole ≡ text ++ left = cc in
     let none_left : left ≡ [] = rest (omega (arith, ap length same, length-append text left)) in
     rw (same, none_left) (append-nil text)
@@ -39,8 +37,8 @@ not_refused name line old new told refusal = go (named old.texts name) refl told
     go : (found : Option (List ℕ)) → named old.texts name ≡ found → IsSomeAnd found IsAcceptable → ⊥
     go None here accepted = accepted
     go (Some whole) here accepted =
-        let front = sym here ∙ refusal.read.told (told_by_name old.texts name whole here) in
-        let same : whole ≡ refusal.text = front_is_whole whole refusal.text new.left front refusal.read.rest (stands_short whole accepted.spec accepted.stands) in
+        let prefix = sym here ∙ refusal.read.told (told_by_name old.texts name whole here) in
+        let same : whole ≡ refusal.text = prefix_is_whole whole refusal.text new.left prefix refusal.read.rest (stands_short whole accepted.spec accepted.stands) in
         not_both refusal.text line (subst IsAcceptable same accepted) refusal.refused
 
 -- a text that is told and refusable isn't accepted
@@ -71,18 +69,9 @@ completes (Some name) WriteFault old new ends quiet told = absurd (quiet.shelf e
 completes (Some name) PrintFault old new ends quiet told = absurd (elim ends [ inl refusal ↦ quiet.sink refusal.sink.rose | inr lines ↦ quiet.sink lines.sink.rose ])
 completes (Some name) ServeFault old new ends quiet told = absurd ends
 
--- the files of the parts are those of their nets
-with_parts-nets : (parts : List Part) (k : ℕ) (m : Files) → with_parts parts k m ≡ with_nets (nets_of parts) k m
-with_parts-nets parts zero m = refl
-with_parts-nets parts (suc k) m =
-    let net : (part_at parts k).net ≡ net_at (nets_of parts) k = sym (get_or-map (λ (p : Part). p.net) parts k no_part) in
-    λ i. insert (with_parts-nets parts k m i) (part_name k) (component_text (net i) (k + 1))
-
 -- what is put of the parts is put of their nets
 puts_nets : (parts : List Part) (old new : Option Files) → HasParts parts (length parts) old new → new ≡ option_map (with_nets (nets_of parts) (length (nets_of parts))) old
-puts_nets parts None new put = put
-puts_nets parts (Some m) new put =
-    put ∙ ap Some (with_parts-nets parts (length parts) m) ∙ ap (λ k. Some (with_nets (nets_of parts) k m)) (sym (length-map parts (λ (p : Part). p.net)))
+puts_nets parts old new put = put ∙ ap (λ k. option_map (with_nets (nets_of parts) k) old) (sym (length-map parts (λ (p : Part). p.net)))
 
 -- a run that is done has written components
 pub done_means : (form : Option (List ℕ)) (s : Status) (old new : Seen) → Ends form s old new → s ≡ Done → IsSomeAnd form (λ name. WritesComponents name old new)
@@ -99,6 +88,7 @@ done_means form Done old new ends is = go form ends
           nets = nets_of ends.parts;
           put = puts_nets ends.parts old.shelf.files new.shelf.files ends.shelf;
           components = meaning.components;
+          read_back = meaning.read_back;
         }
 done_means form BadWords old new ends is = cc
 done_means form Refused old new ends is = cc
@@ -127,10 +117,10 @@ missing_ends (Some name) ReadFault old new ends missing = inl refl
 missing_ends (Some name) NoMemory old new ends missing = inr refl
 missing_ends (Some name) Done old new ends missing = absurd (whole_there name ends.source.text old.source new.source ends.source.read missing)
 missing_ends (Some name) BadWords old new ends missing = let e = ends.no_form in cc
-missing_ends (Some name) Refused old new ends missing = absurd (read_there 1048577 name ends.source.text old.source new.source ends.source.read missing)
+missing_ends (Some name) Refused old new ends missing = absurd (read_there most_read name ends.source.text old.source new.source ends.source.read missing)
 missing_ends (Some name) WriteFault old new ends missing = absurd (whole_there name ends.source.text old.source new.source ends.source.read missing)
 missing_ends (Some name) PrintFault old new ends missing = absurd (elim ends [
-  | inl refusal ↦ read_there 1048577 name refusal.source.text old.source new.source refusal.source.read missing
+  | inl refusal ↦ read_there most_read name refusal.source.text old.source new.source refusal.source.read missing
   | inr lines ↦ whole_there name lines.source.text old.source new.source lines.source.read missing
 ])
 missing_ends (Some name) ServeFault old new ends missing = absurd ends

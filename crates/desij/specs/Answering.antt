@@ -1,5 +1,5 @@
 -- The answer to a text: its parts, or the line that refuses it.
-use Rattle.std.specs.Prelude.{◌≡◌, ◌⊎◌, ℕ, ◌+◌, List, ◌∷◌, [], ◌++◌, codes}
+use Rattle.std.specs.Prelude.{◌≡◌, ◌⊎◌, ℕ, List, ◌∷◌, [], ◌++◌, codes}
 use Rattle.stg_net.specs.declared.limits.TheConstants.Limits.{SPEC}
 use Rattle.stg_net.specs.Initial.{graph_of}
 use Rattle.stg_net.specs.Spec.{SpecLists}
@@ -11,18 +11,19 @@ use Rattle.stg_conflict.specs.declared.clash.Clash.{Clash}
 use Rattle.stg_conflict.specs.Clash.{IsLeastClash}
 use Rattle.astg_read.specs.declared.rule.Rule.{Rule}
 use Rattle.astg_read.specs.Standing.{StandsFor, IsUnread}
-use Rattle.astg_write.specs.ComponentText.{component_text}
+use Rattle.astg_write.specs.ReadsBack.{AreReadBack}
 use Rattle.stg_decomp.specs.declared.part.Part.{Part}
-use Rattle.stg_decomp.specs.Parts.{AreParts, part_at, nets_of}
+use Rattle.stg_decomp.specs.Parts.{AreParts, nets_of}
 use Rattle.desij.specs.Printing.{refusal}
 
--- The text stands for a specification without structural auto-conflicts, of which these are the parts. Their nets are components of it: each is faithful to it, and together they are a correct decomposition of it, where it is deterministic.
+-- The text stands for a specification without structural auto-conflicts, of which these are the parts. Their nets are components of it: each is faithful to it, and together they are a correct decomposition of it, where it is deterministic. Each is read back from its text.
 pub record HasAnswer (text : List ℕ) (parts : List Part) : Type 0 where
   pub spec : SpecLists
   pub stands : StandsFor SPEC text spec
   pub no_clash : HasNoAutoConflict (graph_of spec.net)
   pub made : AreParts spec.net parts
   pub components : AreComponents spec.net (nets_of parts)
+  pub read_back : AreReadBack (nets_of parts)
 
 -- the line that tells a clash: both transitions and the place
 abbrev pub clash_line : SpecLists → Clash → List ℕ
@@ -57,7 +58,3 @@ pub record IsAcceptable (text : List ℕ) : Type 0 where
   pub spec : SpecLists
   pub stands : StandsFor SPEC text spec
   pub no_clash : HasNoAutoConflict (graph_of spec.net)
-
--- the text of the k-th part
-abbrev pub part_bytes : List Part → ℕ → List ℕ
-part_bytes parts k = component_text (part_at parts k).net (k + 1)

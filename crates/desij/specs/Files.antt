@@ -4,9 +4,8 @@ use Rattle.std.specs.Option.{option_map}
 use Rattle.std.specs.FinMap.{insert, remove}
 use Rattle.stg_net.specs.Net.{NetLists}
 use Rattle.astg_write.specs.ComponentText.{component_text}
-use Rattle.stg_decomp.specs.Parts.{no_part}
+use Rattle.stg_decomp.specs.Parts.{no_part, nets_of}
 use Rattle.desij.specs.Outside.{Files}
-use Rattle.desij.specs.Answering.{part_bytes}
 use Rattle.stg_decomp.specs.declared.part.Part.{Part}
 use Rattle.desij.specs.declared.outside.PutError.{PutError}
 use Rattle.desij.specs.declared.outside.PutError.TheVariants as put_error
@@ -15,30 +14,29 @@ use Rattle.desij.specs.declared.outside.PutError.TheVariants as put_error
 abbrev pub part_name : ℕ → List ℕ
 part_name k = codes "part" ++ decimal (k + 1) ++ codes ".g"
 
--- the files with those of the first k parts set
-abbrev pub with_parts : List Part → ℕ → Files → Files
-with_parts parts zero m = m
-with_parts parts (suc k) m = insert (with_parts parts k m) (part_name k) (part_bytes parts k)
+-- the net of that number
+abbrev pub net_at : List NetLists → ℕ → NetLists
+net_at nets k = slice_index_or nets k no_part.net
+
+-- the component text of the k-th net
+abbrev pub net_bytes : List NetLists → ℕ → List ℕ
+net_bytes nets k = component_text (net_at nets k) (k + 1)
+
+-- the files with those of the first k nets set: each is the component text of its net
+abbrev pub with_nets : List NetLists → ℕ → Files → Files
+with_nets nets zero m = m
+with_nets nets (suc k) m = insert (with_nets nets k m) (part_name k) (net_bytes nets k)
 
 -- these files are the old ones with those of the first k parts set
 abbrev pub HasParts : List Part → ℕ → Option Files → Option Files → Type 0
-HasParts parts k old new = new ≡ option_map (with_parts parts k) old
+HasParts parts k old new = new ≡ option_map (with_nets (nets_of parts) k) old
 
 -- The files of the first k parts are set. Nothing is told of the next one, and all others are as they were.
 abbrev pub FailsAt : List Part → ℕ → Option Files → Option Files → Type 0
-FailsAt parts k old new = option_map (λ (m : Files). remove m (part_name k)) new ≡ option_map (λ (m : Files). remove (with_parts parts k m) (part_name k)) old
+FailsAt parts k old new = option_map (λ (m : Files). remove m (part_name k)) new ≡ option_map (λ (m : Files). remove (with_nets (nets_of parts) k m) (part_name k)) old
 
 -- All files are set; or those before the one that failed; or some first ones, where memory ran out.
 abbrev pub PutsParts : List Part → Result (Unit {0}) PutError → Option Files → Option Files → Type 0
 PutsParts parts (Ok done) old new = HasParts parts (length parts) old new
 PutsParts parts (Err put_error.Failed) old new = (k : ℕ) × (k < length parts) × FailsAt parts k old new
 PutsParts parts (Err put_error.NoMemory) old new = (k : ℕ) × (k ≤ length parts) × HasParts parts k old new
-
--- the net of that number
-abbrev pub net_at : List NetLists → ℕ → NetLists
-net_at nets k = slice_index_or nets k no_part.net
-
--- the files with those of the first k nets set: each is the component text of its net
-abbrev pub with_nets : List NetLists → ℕ → Files → Files
-with_nets nets zero m = m
-with_nets nets (suc k) m = insert (with_nets nets k m) (part_name k) (component_text (net_at nets k) (k + 1))

@@ -39,6 +39,6 @@ printed parts = part_lines 1 parts ++ count_text (codes "done ") (length parts) 
 abbrev pub refusal : Rule → ℕ → List ℕ
 refusal rule line = codes "refused " ++ rule_text rule ++ count_text (codes " line ") line ++ 10 ∷ []
 
--- some of these bytes, from the front on, were appended
-abbrev pub IsFrontPrinted : List ℕ → Option (List ℕ) → Option (List ℕ) → Type 0
-IsFrontPrinted bytes old new = (k : ℕ) × (new ≡ append_known old (take k bytes))
+-- a prefix of these bytes was appended
+abbrev pub IsPrefixPrinted : List ℕ → Option (List ℕ) → Option (List ℕ) → Type 0
+IsPrefixPrinted bytes old new = (k : ℕ) × (new ≡ append_known old (take k bytes))

@@ -1,9 +1,14 @@
 -- What is read of a text, and why it isn't.
-use Rattle.std.specs.Prelude.{◌≡◌, ℕ, ◌≤◌, ◌<◌, List, [], ◌++◌, length, None, Some, IsSome, IfSome, Result, IsErrOf}
+use Rattle.std.specs.Prelude.{◌≡◌, ℕ, ◌+◌, ◌≤◌, ◌<◌, List, [], ◌++◌, length, None, Some, IsSome, IfSome, Result, IsErrOf}
 use Rattle.std.specs.Option.{option_map}
+use Rattle.stg_net.specs.declared.limits.TheConstants.Limits.{SPEC}
 use Rattle.desij.specs.Outside.{SeenSource, Rose, named}
 use Rattle.desij.specs.declared.reading.TextError.{TextError}
 use Rattle.desij.specs.declared.reading.TextError.TheVariants as text_error
+
+-- so many bytes are read at most: one more than a text may have
+abbrev pub most_read : ℕ
+most_read = SPEC.bytes + 1
 
 -- This is the text of that name, where texts are told: the whole of it, or its first bytes, so many as may be read, where it has more. The rest is left.
 pub record ReadsUpTo (most : ℕ) (name text : List ℕ) (old new : SeenSource) : Type 0 where

@@ -7,11 +7,12 @@ use Rattle.stg_net.specs.Net.{NetLists}
 use Rattle.astg_read.specs.Standing.{StandsFor}
 use Rattle.stg_net.specs.Spec.{SpecLists}
 use Rattle.stg_laws.specs.Faithful.{AreComponents}
+use Rattle.astg_write.specs.ReadsBack.{AreReadBack}
 use Rattle.desij.specs.Answering.{HasAnswer, IsRefusedBy, IsRefusable, IsAcceptable}
 use Rattle.desij.specs.Files.{FailsAt, HasParts, with_nets}
 use Rattle.desij.specs.Outside.{SeenSource, SeenShelf, SeenSink, Rose, named}
-use Rattle.desij.specs.Printing.{IsFrontPrinted, printed}
-use Rattle.desij.specs.Reading.{IsMissing, ReadsUpTo, ReadsWhole}
+use Rattle.desij.specs.Printing.{IsPrefixPrinted, printed}
+use Rattle.desij.specs.Reading.{IsMissing, ReadsUpTo, ReadsWhole, most_read}
 use Rattle.desij.specs.Words.{usage}
 use Rattle.stg_decomp.specs.declared.part.Part.{Part}
 
@@ -28,15 +29,15 @@ seen source shelf sink = record { source = source; shelf = shelf; sink = sink }
 abbrev pub Prints : List ℕ → SeenSink → SeenSink → Type 0
 Prints bytes old new = new.written ≡ append_known old.written bytes
 
--- some of these bytes were printed, from the front on, and then a call of the sink failed
+-- a prefix of these bytes was printed, and then a call of the sink failed
 pub record BreaksOff (bytes : List ℕ) (old new : SeenSink) : Type 0 where
-  pub front : IsFrontPrinted bytes old.written new.written
+  pub prefix : IsPrefixPrinted bytes old.written new.written
   pub rose : Rose old.faults new.faults
 
 -- what was read of the text of that name is refused by this line
 pub record IsRefused (name line : List ℕ) (old new : SeenSource) : Type 0 where
   pub text : List ℕ
-  pub read : ReadsUpTo 1048577 name text old new
+  pub read : ReadsUpTo most_read name text old new
   pub refused : IsRefusedBy text line
 
 -- the text of that name was read whole, and has these parts
@@ -81,7 +82,7 @@ pub record WritesParts (name : List ℕ) (old new : Seen) : Type 0 where
   pub shelf : PutsAll parts old.shelf new.shelf
   pub sink : Prints (printed parts) old.sink new.sink
 
--- What WritesParts means, told without parts: the text stands for a specification; the component texts of some nets were put, and no other file has changed; these nets share out what the specification drives, each has exactly its traces on the net's signals, and together they are a correct decomposition of it, where it is deterministic.
+-- What WritesParts means, told without parts: the text stands for a specification; the component texts of some nets were put, and no other file has changed; these nets share out what the specification drives, each has exactly its traces on the net's signals, and together they are a correct decomposition of it, where it is deterministic. Each net is read back from its file.
 pub record WritesComponents (name : List ℕ) (old new : Seen) : Type 0 where
   pub text : List ℕ
   pub read : ReadsWhole name text old.source new.source
@@ -90,6 +91,7 @@ pub record WritesComponents (name : List ℕ) (old new : Seen) : Type 0 where
   pub nets : List NetLists
   pub put : new.shelf.files ≡ option_map (with_nets nets (length nets)) old.shelf.files
   pub components : AreComponents spec.net nets
+  pub read_back : AreReadBack nets
 
 -- a call of the source failed or it has no text of that name, and nothing was put or printed
 pub record CannotRead (name : List ℕ) (old new : Seen) : Type 0 where

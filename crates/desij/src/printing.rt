@@ -5,7 +5,7 @@ ghost use Rattle.std.specs.Io.KnownBytes.{append_known};
 ghost use Rattle.std.specs.String.{string_bytes};
 ghost use Rattle.desij.specs.Answering.{clash_line};
 ghost use Rattle.desij.specs.Outside.{HasCause};
-ghost use Rattle.desij.specs.Printing.{IsFrontPrinted, count_text, net_sizes, part_line, printed, refusal, signal_counts};
+ghost use Rattle.desij.specs.Printing.{IsPrefixPrinted, count_text, net_sizes, part_line, printed, refusal, signal_counts};
 
 use crate::outside::{Failed, Sink};
 use astg_read::Rule;
@@ -98,7 +98,7 @@ pub fn clash_text(alloc: Global, spec: &Spec, clash: Clash) -> Result<Text, NoMe
 /// Writes all of these bytes.
 pub fn write_all<K: Sink>(sink: &mut K, bytes: &[u8]) -> Result<(), Failed>
     ensures ok { OnOk result ((K.seen sink.new).written ≡ append_known (K.seen sink.old).written bytes.now) }
-    ensures err { OnErr result (IsFrontPrinted bytes.now (K.seen sink.old).written (K.seen sink.new).written) }
+    ensures err { OnErr result (IsPrefixPrinted bytes.now (K.seen sink.old).written (K.seen sink.new).written) }
     ensures cause { HasCause (K.seen sink.old).faults (K.seen sink.new).faults result }
 {
     let mut at = 0;

@@ -3,9 +3,9 @@
 ghost use Rattle.std.specs.Prelude.{◌≡◌, ◌<◌, ◌≤◌, All, IfOk, length};
 ghost use Rattle.std.specs.String.{string_bytes};
 ghost use Rattle.astg_write.specs.Writable.{IsWritable};
-ghost use Rattle.desij.specs.Answering.{part_bytes};
+ghost use Rattle.stg_decomp.specs.Parts.{nets_of};
 ghost use Rattle.stg_decomp.specs.declared.part.Part.{Part};
-ghost use Rattle.desij.specs.Files.{PutsParts, part_name};
+ghost use Rattle.desij.specs.Files.{PutsParts, net_bytes, part_name};
 ghost use Rattle.desij.specs.Outside.{HasPutCause, Puts};
 
 use crate::outside::{PutError, Shelf};
@@ -25,11 +25,12 @@ pub fn put_parts<F: Shelf>(alloc: Global, answer: &Answer, shelf: &mut F) -> Res
     Ok(())
 }
 
+#[tactic(auto, using(crate::proofs::PutLemmas::net_of_part))]
 fn put_part<F: Shelf>(alloc: Global, answer: &Answer, k: u32, shelf: &mut F) -> Result<(), PutError>
     requires there { k < length answer.now.parts }
     requires number { k ≤ 249 }
     requires fit { All (λ (p : Part). IsWritable p.net) answer.now.parts }
-    ensures files { Puts (part_name k) (part_bytes answer.now.parts k) result (F.seen shelf.old).files (F.seen shelf.new).files }
+    ensures files { Puts (part_name k) (net_bytes (nets_of answer.now.parts) k) result (F.seen shelf.old).files (F.seen shelf.new).files }
     ensures cause { HasPutCause (F.seen shelf.old).faults (F.seen shelf.new).faults result }
 {
     let text = part_text(alloc, answer, k)?;

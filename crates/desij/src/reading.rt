@@ -7,18 +7,21 @@ ghost use Rattle.desij.specs.Reading.{HasTextCause, ReadsUpTo};
 
 use crate::outside::{Failed, Source};
 use std::alloc::Global;
-use stg_net::{NoMemory, Seq, Text};
+use stg_net::{Limits, NoMemory, Seq, Text};
 
 /// One byte more than a text may have.
-pub const MOST: usize = 1_048_577;
+pub const MOST: usize = Limits::SPEC.bytes as usize + 1;
 
 const PIECE: usize = 4096;
 
 /// Why a text wasn't read.
 #[derive(Clone, Copy, Debug, PartialEq, Eq)]
 pub enum TextError {
+    /// A call of the source failed.
     Failed,
+    /// The source has no text of that name.
     Missing,
+    /// Memory ran out.
     NoMemory,
 }
 

@@ -1,3 +1,4 @@
 pub mod Examples
 pub mod Meaning
 pub mod Grouped
+pub mod ReadBack

@@ -10,6 +10,7 @@ ghost use Rattle.stg_conflict.specs.Clash.{IsLeastClash};
 ghost use Rattle.stg_decomp.specs.Telling.{clash_told};
 ghost use Rattle.stg_decomp.specs.declared.part.Part.{Part};
 ghost use Rattle.astg_write.specs.Writable.{IsWritable};
+ghost use Rattle.astg_write.specs.ReadsBack.{AreReadBack};
 ghost use Rattle.stg_decomp.specs.Parts.{AreParts, part_of, nets_of, parts_of};
 
 use crate::{Answer, DecompError, Part};
@@ -68,6 +69,7 @@ fn make_answer(alloc: Global, spec: &Spec) -> Result<Answer, NoMemory>
     ensures few { IfOk result (λ answer. length answer.parts ≤ 250) }
     ensures writable { IfOk result (λ answer. All (λ (part : Part). IsWritable part.net) answer.parts) }
     ensures meaning { IfOk result (λ answer. AreComponents spec.now.net (nets_of answer.parts)) }
+    ensures reads_back { IfOk result (λ answer. AreReadBack (nets_of answer.parts)) }
 {
     let groups = plain_groups(alloc, spec)?;
     let parts = make_parts(alloc, spec.net(), groups.as_slice())?;
@@ -77,7 +79,7 @@ fn make_answer(alloc: Global, spec: &Spec) -> Result<Answer, NoMemory>
 /// Decomposes a specification: one part for each plain group, in their order. Each part knows every
 /// signal. An own internal signal is an output of its part where another part knows it. Each part's
 /// net has exactly the specification's traces on its signals; together they are a correct
-/// decomposition of it, where it is deterministic.
+/// decomposition of it, where it is deterministic. Each net is read back from its text.
 ///
 /// A specification with a structural auto-conflict is answered by the least one.
 pub fn decompose(alloc: Global, spec: &Spec) -> Result<Answer, DecompError>
@@ -86,6 +88,7 @@ pub fn decompose(alloc: Global, spec: &Spec) -> Result<Answer, DecompError>
     ensures few { IfOk result (λ answer. length answer.parts ≤ 250) }
     ensures writable { IfOk result (λ answer. All (λ (part : Part). IsWritable part.net) answer.parts) }
     ensures meaning { IfOk result (λ answer. AreComponents spec.now.net (nets_of answer.parts)) }
+    ensures reads_back { IfOk result (λ answer. AreReadBack (nets_of answer.parts)) }
     ensures clash { IfSome (clash_told result) (λ c. IsLeastClash (graph_of spec.now.net) c) }
     ensures none { clash_told result ≡ None ↔ HasNoAutoConflict (graph_of spec.now.net) }
 {
