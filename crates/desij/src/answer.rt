@@ -20,7 +20,9 @@ use stg_net::{Limits, NoMemory, Spec, Text};
 /// Why a text has no parts: it is refused by a line to be printed, or memory ran out.
 #[derive(Debug, Drop)]
 pub enum Unmade {
+    /// The text is refused by this line.
     Refused(Text),
+    /// Memory ran out.
     NoMemory,
 }
 

@@ -16,6 +16,7 @@ pub struct Calls {
 }
 
 impl Calls {
+    /// No call; those whose numbers are in `fails` are to fail.
     pub fn new(fails: Nums) -> Self
         ensures { result ≡ fresh_calls fails }
     {

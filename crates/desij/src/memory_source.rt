@@ -1,6 +1,6 @@
 //! A source in memory.
 
-ghost use Rattle.std.specs.Prelude.{◌≡◌, ◌≢◌, ◌+◌, ◌<◌, ◌≤◌, ◌↔◌, length, take, drop, min, AllPairs, List, ℕ, IfOk, OnOk, OnErr, IsErr, is_some};
+ghost use Rattle.std.specs.Prelude.{◌≡◌, ◌≢◌, ◌+◌, ◌<◌, ◌≤◌, ◌↔◌, length, take, drop, min, AllPairs, IfOk, OnOk, OnErr, IsErr, is_some};
 ghost use Rattle.desij.specs.Outside.{HasCause, Reads, Selects};
 ghost use Rattle.desij.specs.Calls.{FailsNext, after_call, after_fault};
 ghost use Rattle.desij.specs.Entries.{Entry, bytes_at, bytes_of};
@@ -54,26 +54,6 @@ impl MemSource {
     }
 }
 
-// The bytes of the entry at a place, none past the end.
-fn text_at(texts: &[(Text, Text)], at: usize) -> &[u8]
-    ensures { result.now ≡ bytes_at texts.now at }
-{
-    match texts.get(at) {
-        Some(entry) => entry.1.as_slice(),
-        None => &[],
-    }
-}
-
-// Copies at most so many bytes to the front of a buffer.
-fn copy_front(bytes: &[u8], buf: &mut [u8], most: usize) -> usize
-    ensures count { result ≡ min (min (length bytes.now) (length buf.old)) most }
-    ensures copied { take result buf.new ≡ take result bytes.now }
-{
-    let count = bytes.len().min(buf.len()).min(most);
-    buf[..count].copy_from_slice(&bytes[..count]);
-    count
-}
-
 impl Source for MemSource {
     ghost seen = { seen_source };
 
@@ -116,4 +96,24 @@ impl Source for MemSource {
         self.from += count;
         Ok(count)
     }
+}
+
+// The bytes of the entry at a place, none past the end.
+fn text_at(texts: &[(Text, Text)], at: usize) -> &[u8]
+    ensures { result.now ≡ bytes_at texts.now at }
+{
+    match texts.get(at) {
+        Some(entry) => entry.1.as_slice(),
+        None => &[],
+    }
+}
+
+// Copies at most so many bytes to the front of a buffer.
+fn copy_front(bytes: &[u8], buf: &mut [u8], most: usize) -> usize
+    ensures count { result ≡ min (min (length bytes.now) (length buf.old)) most }
+    ensures copied { take result buf.new ≡ take result bytes.now }
+{
+    let count = bytes.len().min(buf.len()).min(most);
+    buf[..count].copy_from_slice(&bytes[..count]);
+    count
 }

@@ -12,7 +12,9 @@ pub struct Failed;
 /// Why a file wasn't put.
 #[derive(Clone, Copy, Debug, PartialEq, Eq)]
 pub enum PutError {
+    /// The call failed.
     Failed,
+    /// Memory ran out.
     NoMemory,
 }
 
@@ -30,7 +32,7 @@ impl From<NoMemory> for PutError {
 pub trait Source {
     ghost seen: { Self → SeenSource };
 
-    /// Selects the text of that name, all of which is then left.
+    /// Selects the text of that name, all of which is then left. At most eight calls may come.
     fn select(&mut self, name: &str) -> Result<bool, Failed>
         requires { (seen self.old).selects < 8 }
         ensures left { Selects name.now result (seen self.old) (seen self.new) }

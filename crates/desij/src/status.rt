@@ -3,12 +3,20 @@
 /// How a run ends. The number is the exit status.
 #[derive(Clone, Copy, Debug, PartialEq, Eq)]
 pub enum Status {
+    /// The files are put and the lines are printed.
     Done = 0,
+    /// The words aren't of the form, and the usage is printed.
     BadWords = 2,
+    /// The text is refused, and the refusal is printed.
     Refused = 3,
+    /// The text couldn't be read.
     ReadFault = 4,
+    /// A file couldn't be put.
     WriteFault = 5,
+    /// The sink took no more.
     PrintFault = 6,
+    /// Memory ran out.
     NoMemory = 7,
+    /// Never.
     ServeFault = 8,
 }

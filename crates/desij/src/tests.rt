@@ -1,5 +1,7 @@
 //! Words, texts and faults over the forms in memory, and a test of each real form.
 
+mod texts;
+
 use super::*;
 use crate::memory_shelf::MemShelf;
 use crate::memory_sink::MemSink;
@@ -259,103 +261,23 @@ fn assert_refused(rt: &impl Abort, alloc: Global, table: &[(&[u8], &[u8])]) -> R
 
 #[test]
 fn refuses_a_line_by_the_first_rule_that_it_breaks(rt: HostRuntime) -> Result<(), Fail> {
-    let table: [(&[u8], &[u8]); 11] = [
-        (
-            b".inputs a\n.outputs x\n.graph\na+ x+\x01\n.marking { }\n.end\n",
-            b"refused BadByte line 4\n",
-        ),
-        (
-            b".inputs a\n.outputs x\n.graph\na+ x+\n.capacity p=1\n.end\n",
-            b"refused UnknownDirective line 5\n",
-        ),
-        (
-            b".inputs a\n.outputs x\n.graph\na+ x+\n.inputs b\n.end\n",
-            b"refused OutOfOrder line 5\n",
-        ),
-        (
-            b".inputs a\n.outputs x\n.graph\na+ x+/y\n.marking { }\n.end\n",
-            b"refused BadName line 4\n",
-        ),
-        (
-            b".inputs a\n.outputs a\n.graph\na+ x+\n.marking { }\n.end\n",
-            b"refused DeclaredTwice line 2\n",
-        ),
-        (
-            b".inputs a\n.outputs x\n.graph\na+ y+\n.marking { }\n.end\n",
-            b"refused UnknownSignal line 4\n",
-        ),
-        (
-            b".inputs a\n.outputs x\n.graph\na+ x\n.marking { }\n.end\n",
-            b"refused NoEdge line 4\n",
-        ),
-        (
-            b".inputs a\n.outputs x\n.graph\np q\n.marking { }\n.end\n",
-            b"refused BadArc line 4\n",
-        ),
-        (
-            b".inputs a\n.outputs x\n.graph\na+ x+ x+/0\n.marking { }\n.end\n",
-            b"refused RepeatedArc line 4\n",
-        ),
-        (
-            b".inputs a\n.outputs x\n.graph\na+ p(1001)\n.marking { }\n.end\n",
-            b"refused BadWeight line 4\n",
-        ),
-        (
-            b".inputs a\n.outputs x\n.graph\na+ x+(2)\n.marking { }\n.end\n",
-            b"refused BadWeight line 4\n",
-        ),
-    ];
-    assert_refused(&rt, rt.alloc(), &table)
+    assert_refused(&rt, rt.alloc(), texts::LINES)
 }
 
 #[test]
 fn refuses_a_marking(rt: HostRuntime) -> Result<(), Fail> {
-    let table: [(&[u8], &[u8]); 4] = [
-        (
-            b".inputs a\n.outputs x\n.graph\na+ x+\n.marking { p }\n.end\n",
-            b"refused BadMarking line 5\n",
-        ),
-        (
-            b".inputs a\n.outputs x\n.graph\na+ x+\n.marking { <a+,x+>=1001 }\n.end\n",
-            b"refused BadMarking line 5\n",
-        ),
-        (
-            b".inputs a\n.outputs x\n.graph\na+ x+\n.marking { <a+,x+> <a+/0,x+> }\n.end\n",
-            b"refused BadMarking line 5\n",
-        ),
-        (
-            b".inputs a\n.outputs x\n.graph\na+ x+\n.marking {\n.end\n",
-            b"refused BadMarking line 6\n",
-        ),
-    ];
-    assert_refused(&rt, rt.alloc(), &table)
+    assert_refused(&rt, rt.alloc(), texts::MARKINGS)
 }
 
 #[test]
 fn refuses_a_whole_text(rt: HostRuntime) -> Result<(), Fail> {
-    let table: [(&[u8], &[u8]); 5] = [
-        (b".inputs a\n.end\n", b"refused NoGraph line 2\n"),
-        (b"", b"refused NoGraph line 1\n"),
-        (
-            b".inputs a\n.outputs x\n.graph\na+ x+\n.marking { }\n",
-            b"refused NoEnd line 6\n",
-        ),
-        (
-            b".inputs a\n.outputs x\n.dummy e\n.graph\na+ x+\n.marking { }\n.end\n",
-            b"refused HasDummy line 3\n",
-        ),
-        (
-            b".inputs a\n.graph\np a+ a+/1\n.end\n",
-            b"refused Clash a+ a+/1 p\n",
-        ),
-    ];
-    assert_refused(&rt, rt.alloc(), &table)
+    assert_refused(&rt, rt.alloc(), texts::WHOLE)
 }
 
-// A text of that many bytes `#` behind these.
-fn with_comment(alloc: Global, front: &[u8], len: usize) -> Result<Text, NoMemory> {
-    let mut text = Seq::from_slice(alloc, front)?;
-    for _byte in front.len()..len {
+// A text of that many bytes: these, and then `#`.
+fn with_comment(alloc: Global, prefix: &[u8], len: usize) -> Result<Text, NoMemory> {
+    let mut text = Seq::from_slice(alloc, prefix)?;
+    for _byte in prefix.len()..len {
         text.push(b'#')?;
     }
     Ok(text)
@@ -384,41 +306,7 @@ fn reads_up_to_the_limit_of_bytes(rt: HostRuntime) -> Result<(), Fail> {
 #[test]
 fn accepts_what_the_profile_leaves_free(rt: HostRuntime) -> Result<(), Fail> {
     let printed = b"part 1 own 1 inputs 1 transitions 2 places 1 restored 0\ndone 1\n";
-    let table: [(&[u8], &[u8]); 8] = [
-        (
-            b".inputs a\n.outputs x\n.graph\na+ x+\n.marking { }\n.end\n",
-            b".model part1\n.inputs a\n.outputs x\n.graph\na+ p1\nx+\np1 x+\n.marking { }\n.end\n",
-        ),
-        (
-            b".inputs a\n.outputs x\n.graph\na+/0 x+\n.marking { }\n.end\n",
-            b".model part1\n.inputs a\n.outputs x\n.graph\na+ p1\nx+\np1 x+\n.marking { }\n.end\n",
-        ),
-        (
-            b".inputs a\n.outputs x\n.graph\na+ x+\n.marking {\n<a+ , x+> = 2\n}\n.end\n",
-            b".model part1\n.inputs a\n.outputs x\n.graph\na+ p1\nx+\np1 x+\n.marking { p1=2 }\n.end\n",
-        ),
-        (
-            b".inputs a\n.outputs x\n.graph\na+ x+\n.end\n",
-            b".model part1\n.inputs a\n.outputs x\n.graph\na+ p1\nx+\np1 x+\n.marking { }\n.end\n",
-        ),
-        (
-            b".inputs a\n.outputs x\n.graph\na+ x+\n.marking { }\n.end here\n\x01\n",
-            b".model part1\n.inputs a\n.outputs x\n.graph\na+ p1\nx+\np1 x+\n.marking { }\n.end\n",
-        ),
-        (
-            b".inputs a\r\n.outputs x\r\n.graph\r\na+ x+\r\n.marking { }\r\n.end\r\n",
-            b".model part1\n.inputs a\n.outputs x\n.graph\na+ p1\nx+\np1 x+\n.marking { }\n.end\n",
-        ),
-        (
-            b".name t\n.inputs\n.inputs a\n.outputs x\n.graph\na+ x+\n.marking { }\n.end\n",
-            b".model part1\n.inputs a\n.outputs x\n.graph\na+ p1\nx+\np1 x+\n.marking { }\n.end\n",
-        ),
-        (
-            b".inputs a\n.outputs x\n.graph\na+ p(1000)\np x+(1000)\n.marking { }\n.end\n",
-            b".model part1\n.inputs a\n.outputs x\n.graph\na+ p1(1000)\nx+\np1 x+(1000)\n.marking { }\n.end\n",
-        ),
-    ];
-    for (row, (text, first)) in table.into_iter().enumerate() {
+    for (row, (text, first)) in texts::FREE.iter().enumerate() {
         let ran = run_over(rt.alloc(), &["decompose", "spec.g"], text, (0, 0, 0), 100)?;
         assert_ran(&rt, row, &ran, Status::Done, 1, printed);
         assert_first(&rt, &ran, first);
@@ -428,41 +316,9 @@ fn accepts_what_the_profile_leaves_free(rt: HostRuntime) -> Result<(), Fail> {
 
 #[test]
 fn makes_a_part_for_each_group(rt: HostRuntime) -> Result<(), Fail> {
-    let table: [(&[u8], usize, &[u8]); 6] = [
-        (
-            b".inputs a\n.graph\na+ a-\na- a+\n.marking { <a-,a+> }\n.end\n",
-            0,
-            b"done 0\n",
-        ),
-        (
-            b".inputs a\n.outputs x\n.graph\na+ a-\na- a+\n.marking { <a-,a+> }\n.end\n",
-            1,
-            b"part 1 own 1 inputs 1 transitions 2 places 2 restored 0\ndone 1\n",
-        ),
-        (
-            b".inputs a b\n.outputs x\n.graph\ns b+\nb+ p\np a+ x+\n.marking { s }\n.end\n",
-            1,
-            b"part 1 own 1 inputs 2 transitions 3 places 2 restored 0\ndone 1\n",
-        ),
-        (
-            b".outputs x y z\n.graph\np x+ y+\nq y+ z+\n.marking { p q }\n.end\n",
-            1,
-            b"part 1 own 3 inputs 0 transitions 3 places 2 restored 0\ndone 1\n",
-        ),
-        (
-            b".inputs a\n.outputs x\n.graph\np a+\nq a+/1\na+ r\na+/1 r\nr x+\n.marking { p q }\n.end\n",
-            1,
-            b"part 1 own 1 inputs 1 transitions 3 places 3 restored 0\ndone 1\n",
-        ),
-        (
-            b".inputs a\n.outputs x\n.internal m\n.graph\na+ m+\nm+ x+\nx+ a-\na- m-\nm- x-\nx- a+\n.marking { <x-,a+> }\n.end\n",
-            2,
-            b"part 1 own 1 inputs 2 transitions 6 places 6 restored 0\npart 2 own 1 inputs 2 transitions 6 places 6 restored 0\ndone 2\n",
-        ),
-    ];
-    for (row, (text, files, printed)) in table.into_iter().enumerate() {
+    for (row, (text, files, printed)) in texts::GROUPS.iter().enumerate() {
         let ran = run_over(rt.alloc(), &["decompose", "spec.g"], text, (0, 0, 0), 200)?;
-        assert_ran(&rt, row, &ran, Status::Done, files, printed);
+        assert_ran(&rt, row, &ran, Status::Done, *files, printed);
     }
     Ok(())
 }
