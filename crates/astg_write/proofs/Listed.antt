@@ -1,8 +1,9 @@
 -- What is listed for each number below a bound, and what appears first.
-use Rattle.std.proofs.Common.{◌≡◌, ◌+◌, ◌<◌, ◌≤◌, ◌||◌, ℕ, zero, suc, List, [], ◌∷◌, ◌++◌, Bool, true, false, cond, length, map, take, get_or, refl, sym, ap, ◌∙◌, arith, inl, inr, Some, None, position, All, AllPairs, append_assoc, append-nil, length-append, nat_lt}
-use Rattle.std.proofs.lemmas.Bool.{or_from, or_parts, or_right, or_left, cases_Bool, cases_eq, false≢true, lt-ltb}
+use Rattle.std.proofs.Common.{◌≡◌, ◌+◌, ◌<◌, ◌≤◌, ℕ, zero, suc, List, [], ◌∷◌, ◌++◌, Bool, true, false, cond, length, map, take, get_or, refl, sym, ap, ◌∙◌, arith, inl, inr, Some, None, position, All, AllPairs, append_assoc, append-nil, length-append, nat_lt}
+use Rattle.std.proofs.lemmas.Bool.{or_from, or_right, or_left, cases_eq, lt-ltb}
 use Rattle.std.proofs.lemmas.List.{take_more, get_or_append_left, get_or_at, length-map}
 use Rattle.std.proofs.lemmas.List.Elements.{All-head, All-tail}
+use Rattle.std.proofs.lemmas.List.Folds.{list_any-append}
 use Rattle.std.proofs.lemmas.List.Sums.{position_or_len_is}
 use Rattle.std.specs.List.{list_any, position_or_len}
 use Rattle.stg_net.specs.Ordered.{listed_below}
@@ -10,12 +11,7 @@ use Rattle.astg_read.specs.Lists.{stands_again}
 
 -- of two lists, none passes
 pub any-append_none : {X : Type 0} (f : X → Bool) (xs ys : List X) → list_any f xs ≡ false → list_any f ys ≡ false → list_any f (xs ++ ys) ≡ false
-any-append_none f [] ys h k = k
-any-append_none f (x ∷ xs) ys h k = let p = or_parts (f x) (list_any f xs) h in or_from (f x) (list_any f (xs ++ ys)) p.0 (any-append_none f xs ys p.1 k)
-
-pub any-none : {X : Type 0} (f : X → Bool) (xs : List X) → All (λ x. f x ≡ false) xs → list_any f xs ≡ false
-any-none f [] h = refl
-any-none f (x ∷ xs) h = or_from (f x) (list_any f xs) (All-head (λ y. f y ≡ false) x xs h) (any-none f xs (All-tail (λ y. f y ≡ false) x xs h))
+any-append_none f xs ys h k = list_any-append f xs ys ∙ or_from (list_any f xs) (list_any f ys) h k
 
 -- none of those listed passes
 pub any-listed_none : {X : Type 0} (f : X → Bool) (g : ℕ → X) (n : ℕ) → ((k : ℕ) → k < n → f (g k) ≡ false) → list_any f (listed_below (λ k. g k ∷ []) n) ≡ false
@@ -24,15 +20,10 @@ any-listed_none f g (suc n) h = any-append_none f (listed_below (λ k. g k ∷ [
 
 -- one of those listed passes
 pub any-append_right : {X : Type 0} (f : X → Bool) (xs ys : List X) → list_any f ys ≡ true → list_any f (xs ++ ys) ≡ true
-any-append_right f [] ys h = h
-any-append_right f (x ∷ xs) ys h = or_right (f x) (list_any f (xs ++ ys)) (any-append_right f xs ys h)
+any-append_right f xs ys h = list_any-append f xs ys ∙ or_right (list_any f xs) (list_any f ys) h
 
 pub any-append_left : {X : Type 0} (f : X → Bool) (xs ys : List X) → list_any f xs ≡ true → list_any f (xs ++ ys) ≡ true
-any-append_left f [] ys h = absurd (false≢true h)
-any-append_left f (x ∷ xs) ys h = elim (cases_Bool (f x)) [
-  | inl k ↦ or_left (f x) (list_any f (xs ++ ys)) k
-  | inr k ↦ or_right (f x) (list_any f (xs ++ ys)) (any-append_left f xs ys (sym (ap (λ b. b || list_any f xs) k) ∙ h))
-]
+any-append_left f xs ys h = list_any-append f xs ys ∙ or_left (list_any f xs) (list_any f ys) h
 
 pub any-listed : {X : Type 0} (f : X → Bool) (g : ℕ → X) (n k : ℕ) → k < n → f (g k) ≡ true → list_any f (listed_below (λ k. g k ∷ []) n) ≡ true
 any-listed f g zero k b h = absurd (omega (arith, b))

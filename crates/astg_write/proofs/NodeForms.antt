@@ -1,5 +1,5 @@
 -- Written words as nodes of a graph.
-use Rattle.std.proofs.Common.{◌≡◌, ◌≢◌, ◌<◌, ◌==◌, ◌&&◌, ◌||◌, nat_lt, nat_le, ℕ, List, [], ◌∷◌, ◌++◌, Bool, true, false, cond, length, drop, get_or, refl, sym, ap, subst, ◌∙◌, arith, inl, inr, Option, Some, None, is_some, is_none, option_map, option_and_then, All, AllPairs, append-nil}
+use Rattle.std.proofs.Common.{◌≡◌, ◌≢◌, ◌<◌, ◌==◌, ◌&&◌, ◌||◌, nat_lt, nat_le, ℕ, List, [], ◌∷◌, ◌++◌, Bool, true, false, cond, length, drop, get_or, refl, sym, ap, ◌∙◌, arith, inl, inr, Option, Some, None, is_some, is_none, option_map, option_and_then, All, AllPairs, append-nil}
 use Rattle.std.proofs.lemmas.Bool.{and_parts, and_right, or_right, or_from, cases_Bool, false≢true, eqb-true, lt-ltb, false_from_ne_true}
 use Rattle.std.proofs.lemmas.List.{drop_at}
 use Rattle.std.proofs.lemmas.List.Elements.{All-head, All-tail}
@@ -46,13 +46,6 @@ take-whole f (x ∷ xs) h =
 drop-whole : (xs : List ℕ) → drop (length xs) xs ≡ []
 drop-whole [] = refl
 drop-whole (x ∷ xs) = drop-whole xs
-
-abbrev is_missing : Option WordOfTrans → Type 0
-is_missing None = Unit {0}
-is_missing (Some x) = ⊥
-
-some_none : (t : WordOfTrans) → Some t ≡ None → ⊥
-some_none t e = subst is_missing (sym e) tt
 
 abbrev word_of_change : List ℕ → Option (Edge × ℕ) → Option WordOfTrans
 word_of_change name o = option_map (λ (c : Edge × ℕ). record { name = name; edge = c.0; index = c.1 }) o
@@ -128,7 +121,7 @@ module _ (signals : List Signal) (named : All (λ (s : Signal). is_name s.name �
   unnamed w t [] h e = refl
   unnamed w t (s ∷ ss) h e =
       let P : Signal → Type 0 = λ x. is_name x.name ≡ true in
-      let differs : bytes_eq w s.name ≡ false = false_from_ne_true (bytes_eq w s.name) (λ b. some_none t (sym (sym (read-name s.name (All-head P s ss h)) ∙ ap read_trans_word (sym ((bytes_eq-Decides w s.name).0 b)) ∙ e))) in
+      let differs : bytes_eq w s.name ≡ false = false_from_ne_true (bytes_eq w s.name) (λ b. let none : None ≡ Some t = sym (read-name s.name (All-head P s ss h)) ∙ ap read_trans_word (sym ((bytes_eq-Decides w s.name).0 b)) ∙ e in cc) in
       or_from (bytes_eq w s.name) (list_any (λ (x : Signal). bytes_eq w x.name) ss) differs (unnamed w t ss (All-tail P s ss h) e)
 
   pub word-trans : (name : List ℕ) (e : Edge) (k s : ℕ) → is_name name ≡ true → k < 1000000000 → number_of name signals ≡ Some s

@@ -1,5 +1,5 @@
 -- What reading a component's text back rests on; its words as nodes.
-use Rattle.std.proofs.Common.{◌≡◌, ◌≢◌, ◌+◌, ◌<◌, ◌≤◌, ◌==◌, ◌&&◌, nat_eq, ℕ, List, [], ◌∷◌, ◌++◌, true, false, not, length, filter, get_or, refl, sym, ap, subst, ◌∙◌, arith, inl, inr, AllPairs, Some}
+use Rattle.std.proofs.Common.{◌≡◌, ◌≢◌, ◌+◌, ◌<◌, ◌≤◌, ◌==◌, ℕ, List, [], ◌∷◌, ◌++◌, true, false, not, length, filter, get_or, refl, sym, ap, subst, ◌∙◌, arith, inl, inr, AllPairs, Some}
 use Rattle.std.proofs.lemmas.Bool.{and_parts, not-true, or_parts, or_from, cases_order, true≢false, false_from_ne_true, eqb-true}
 use Rattle.std.proofs.lemmas.Bool.Decides.{Decides-eqb}
 use Rattle.std.proofs.lemmas.List.Elements.{All-get_or, filter_passes}
@@ -11,8 +11,7 @@ use Rattle.std.specs.Prelude.{decimal}
 use Rattle.stg_net.specs.declared.limits.TheConstants.Limits.{PART}
 use Rattle.stg_net.specs.declared.signal.Kind.TheVariants.{Input, Output, Internal}
 use Rattle.stg_net.specs.declared.signal.Signal.{Signal}
-use Rattle.stg_net.specs.declared.trans.Edge.{Edge}
-use Rattle.stg_net.specs.declared.trans.Edge.TheVariants.{Rise, Fall, Toggle}
+use Rattle.stg_net.specs.declared.trans.Edge.TheVariants.{Rise}
 use Rattle.stg_net.specs.declared.trans.TransName.{TransName}
 use Rattle.stg_net.specs.declared.arc.NetArc.{NetArc}
 use Rattle.stg_net.specs.Net.{NetLists, IsNet, IsWithin, IsBefore, number_of}
@@ -20,7 +19,8 @@ use Rattle.stg_net.specs.Names.{is_name}
 use Rattle.stg_net.specs.Words.{word_of, trans_word, name_at}
 use Rattle.stg_net.specs.Ordered.{first_giver}
 use Rattle.astg_read.specs.Header.{without_dummies}
-use Rattle.astg_read.specs.Nodes.{Trans, Place, same_edge, same_trans}
+use Rattle.astg_read.specs.Nodes.{Trans, Place, same_trans}
+use Rattle.astg_read.proofs.ArcLemmas.{trans-eq}
 use Rattle.astg_write.specs.PlaceNames.{begins_with, place_name}
 use Rattle.astg_write.specs.ComponentText.{of_kind, comes_from, goes_out_of}
 use Rattle.astg_write.proofs.WrittenRows.{IsFormed, get-slice}
@@ -40,26 +40,6 @@ pub record IsReadable (prefix : List ℕ) (n : NetLists) : Type 0 where
 -- the transition of that number
 abbrev pub trans_at : NetLists → ℕ → TransName
 trans_at n t = get_or n.trans t (record { signal = 0; edge = Rise; index = 0 })
-
-same_edge-true : (a b : Edge) → same_edge a b ≡ true → a ≡ b
-same_edge-true Rise Rise h = refl
-same_edge-true Rise Fall h = absurd (true≢false (sym h))
-same_edge-true Rise Toggle h = absurd (true≢false (sym h))
-same_edge-true Fall Rise h = absurd (true≢false (sym h))
-same_edge-true Fall Fall h = refl
-same_edge-true Fall Toggle h = absurd (true≢false (sym h))
-same_edge-true Toggle Rise h = absurd (true≢false (sym h))
-same_edge-true Toggle Fall h = absurd (true≢false (sym h))
-same_edge-true Toggle Toggle h = refl
-
-pub same_trans-true : (t u : TransName) → same_trans t u ≡ true → t ≡ u
-same_trans-true t u h =
-    let p = and_parts (nat_eq t.signal u.signal) (same_edge t.edge u.edge && nat_eq t.index u.index) h in
-    let q = and_parts (same_edge t.edge u.edge) (nat_eq t.index u.index) p.1 in
-    let a = eqb-true t.signal u.signal p.0 in
-    let b = same_edge-true t.edge u.edge q.0 in
-    let c = eqb-true t.index u.index q.1 in
-    (λ j. record { signal = a j; edge = b j; index = c j })
 
 module _ (prefix : List ℕ) (n : NetLists) (r : IsReadable prefix n) where
   unused : (w : List ℕ) (rest : List ℕ) → w ≡ prefix ++ rest → (ss : List Signal) → list_any (begins_with prefix) ss ≡ false → list_any (λ (s : Signal). bytes_eq w s.name) ss ≡ false
@@ -94,7 +74,7 @@ module _ (prefix : List ℕ) (n : NetLists) (r : IsReadable prefix n) where
   pub trans-apart : (t u : ℕ) → t < length n.trans → u < length n.trans → t ≢ u → same_trans (trans_at n t) (trans_at n u) ≡ false
   trans-apart t u a b differ = false_from_ne_true (same_trans (trans_at n t) (trans_at n u)) (λ s.
       let d : TransName = record { signal = 0; edge = Rise; index = 0 } in
-      let e = same_trans-true (trans_at n t) (trans_at n u) s in
+      let e = trans-eq (trans_at n t) (trans_at n u) s in
       elim (cases_order t u) [
         | inl k ↦ differ k
         | inr k ↦ elim k [

@@ -17,7 +17,7 @@ use Rattle.astg_read.specs.declared.rule.Rule.TheVariants.{OutOfOrder, BadName, 
 use Rattle.astg_read.specs.Lists.{stands_again}
 use Rattle.astg_read.specs.Rows.{Row, begins}
 use Rattle.astg_read.specs.Header.{without_dummies, signals_of, same_name}
-use Rattle.astg_read.specs.Known.{Known, known}
+use Rattle.astg_read.specs.Known.{Known}
 use Rattle.astg_read.specs.Rules.{has_too_many, has_dummy}
 use Rattle.astg_read.specs.Steps.{after_row}
 use Rattle.astg_read.specs.Taking.{line_fault, directive}
@@ -32,9 +32,6 @@ use Rattle.astg_write.proofs.TakenNet.{few-enough, filter-none, in_graph_of}
 -- what the lines before the graph say
 abbrev pub heads : List Signal → Known
 heads ss = record { has_graph = false; declared = without_dummies ss; trans = []; places = []; pairs = []; marking = None }
-
-pub known-nothing : known [] ≡ heads []
-known-nothing = refl
 
 few-heads : (ss : List Signal) → length ss ≤ 250 → has_too_many PART (heads ss) ≡ false
 few-heads ss h = few-enough (heads ss) h (omega arith) (omega arith) (omega arith)

@@ -26,10 +26,6 @@ not_single v h (c ∷ cs) k =
     let p = and_parts (is_in_name c) (list_all is_in_name cs) k in
     ap (λ b. b && bytes_eq cs []) (not_at is_in_name v c h p.0)
 
-take-nothing : (ws : Row) → take 0 ws ≡ []
-take-nothing [] = refl
-take-nothing (w ∷ ws) = refl
-
 drop-nothing : (ws : Row) → drop 0 ws ≡ ws
 drop-nothing [] = refl
 drop-nothing (w ∷ ws) = refl

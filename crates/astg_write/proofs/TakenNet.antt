@@ -3,6 +3,7 @@ use Rattle.std.proofs.Common.{◌≡◌, ◌≢◌, ◌<◌, ◌≤◌, ◌==◌
 use Rattle.std.proofs.lemmas.Bool.{and_parts, and_left, and_right, not-true, or_parts, or_cases, or_left, or_right, or_from, cases_Bool, cases_lt, true≢false, false≢true, eqb-true, le-ltb}
 use Rattle.std.proofs.lemmas.List.Elements.{All-append, All-head, All-tail, All-filter, All-map, filter_passes}
 use Rattle.std.proofs.lemmas.Slice.Eq.{bytes_eq-Decides}
+use Rattle.std.proofs.lemmas.List.Folds.{list_any_none}
 use Rattle.std.specs.List.{list_any}
 use Rattle.std.specs.Str.{bytes_eq}
 use Rattle.stg_net.specs.declared.limits.TheConstants.Limits.{PART}
@@ -26,7 +27,7 @@ use Rattle.astg_write.specs.ComponentText.{comes_from, goes_into, goes_out_of, i
 use Rattle.astg_write.proofs.WrittenRows.{trans_row, place_row, place_rows}
 use Rattle.astg_write.proofs.TakenRows.{Takes, Takes-append, Takes-one}
 use Rattle.astg_write.proofs.TakenGraphRows.{given_weight, IsAimOf, with_pairs_of, after-graph_row, graph_row-taken}
-use Rattle.astg_write.proofs.Listed.{any-none, any-append_none, any-listed, any-listed_none, length-listed, length-listed-le, length-listed-map, again-none}
+use Rattle.astg_write.proofs.Listed.{any-append_none, any-listed, any-listed_none, length-listed, length-listed-le, length-listed-map, again-none}
 use Rattle.astg_write.proofs.Appearing.{cut, cut-most, cut-below, cut-above, cut-rises, firsts-rising, added-old, added-new, giver-there, giver-least, giver-none}
 use Rattle.astg_write.proofs.WrittenArcs.{arcs_given, arcs_taken, written-length, AllPairs-mapped, AllPairs-with}
 use Rattle.astg_write.proofs.Readable.{IsReadable, trans_at, place-word, trans-word, trans-apart, given-rise, taken-rise}
@@ -182,7 +183,7 @@ module _ (prefix : List ℕ) (n : NetLists) (r : IsReadable prefix n) where
     new-pairs = again-none same_pair (listed_below given_pairs t) (given_pairs t)
         (All-map (λ x. list_any (same_pair x) (listed_below given_pairs t) ≡ false) (arc_pair (Trans (trans_at n t)) place_node) (arcs_given n.arcs t)
         (λ k d b. let x = arc_pair (Trans (trans_at n t)) place_node (get_or (arcs_given n.arcs t) k d) in
-        any-none (same_pair x) (listed_below given_pairs t)
+        list_any_none (same_pair x) (listed_below given_pairs t)
         (All-listed_below (λ y. same_pair x y ≡ false) given_pairs t (λ u c.
         All-map (λ y. same_pair x y ≡ false) (arc_pair (Trans (trans_at n u)) place_node) (arcs_given n.arcs u)
         (λ i e f. and_left (same_trans (trans_at n t) (trans_at n u)) (same_node x.target (place_node (get_or (arcs_given n.arcs u) i e)))
@@ -301,10 +302,10 @@ module _ (prefix : List ℕ) (n : NetLists) (r : IsReadable prefix n) where
         (All-map (λ x. list_any (same_pair x) (pairs_at p) ≡ false) (arc_pair (Place (place_name prefix p)) trans_node) (arcs_taken n.arcs p)
         (λ k d b. let x = arc_pair (Place (place_name prefix p)) trans_node (get_or (arcs_taken n.arcs p) k d) in
         any-append_none (same_pair x) (listed_below given_pairs (length n.trans)) (listed_below taken_pairs p)
-        (any-none (same_pair x) (listed_below given_pairs (length n.trans))
+        (list_any_none (same_pair x) (listed_below given_pairs (length n.trans))
         (All-listed_below (λ y. same_pair x y ≡ false) given_pairs (length n.trans) (λ u c.
         All-map (λ y. same_pair x y ≡ false) (arc_pair (Trans (trans_at n u)) place_node) (arcs_given n.arcs u) (λ i e f. refl))))
-        (any-none (same_pair x) (listed_below taken_pairs p)
+        (list_any_none (same_pair x) (listed_below taken_pairs p)
         (All-listed_below (λ y. same_pair x y ≡ false) taken_pairs p (λ q c.
         All-map (λ y. same_pair x y ≡ false) (arc_pair (Place (place_name prefix q)) trans_node) (arcs_taken n.arcs q)
         (λ i e f. and_left (bytes_eq (place_name prefix p) (place_name prefix q)) (same_node x.target (trans_node (get_or (arcs_taken n.arcs q) i e)))

@@ -1,5 +1,5 @@
 -- Rows that break no rule, one after the other.
-use Rattle.std.proofs.Common.{◌≡◌, ◌+◌, ◌&&◌, ℕ, List, [], ◌∷◌, ◌++◌, Bool, true, false, cond, not, length, map, refl, sym, ap, subst, ◌∙◌, Option, Some, None, append_assoc, append-nil}
+use Rattle.std.proofs.Common.{◌≡◌, ◌+◌, ◌&&◌, ℕ, List, [], ◌∷◌, ◌++◌, Bool, true, false, cond, not, length, map, refl, sym, ap, subst, ◌∙◌, Some, None, append_assoc, append-nil}
 use Rattle.std.proofs.lemmas.Bool.{and_left, and_right}
 use Rattle.std.specs.Prelude.{codes, Result, Ok}
 use Rattle.stg_net.specs.declared.limits.Limits.{Limits}
@@ -62,19 +62,12 @@ reading-end limits last before k ls e u h =
     ∙ ap (λ f. or_fault (length before + 1) f (later k)) h
     ∙ ap (λ b. cond (not b) (Ok (meaning_of k)) (reading_after false limits last (before ++ row ∷ []) ls)) u
 
-abbrev is_nothing : Option Rule → Type 0
-is_nothing None = Unit {0}
-is_nothing (Some x) = ⊥
-
-none_some : (x : Rule) → None ≡ Some x → ⊥
-none_some x e = subst is_nothing e tt
-
 first-append : (rs : List (Bool × Rule)) (ss : List (Bool × Rule)) → first_broken rs ≡ None → first_broken (rs ++ ss) ≡ first_broken ss
 first-append [] ss h = refl
 first-append (r ∷ rs) ss h = by_case r.0 h (first-append rs ss)
   where
     by_case : (b : Bool) → cond b (Some r.1) (first_broken rs) ≡ None → (first_broken rs ≡ None → first_broken (rs ++ ss) ≡ first_broken ss) → cond b (Some r.1) (first_broken (rs ++ ss)) ≡ first_broken ss
-    by_case true e more = absurd (none_some r.1 (sym e))
+    by_case true e more = cc
     by_case false e more = more e
 
 -- outside a marking: what the row says breaks no rule, it is within the limits, and no dummy is declared

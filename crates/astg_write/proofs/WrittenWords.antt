@@ -1,6 +1,8 @@
 -- Bytes that are written word by word are read so.
 use Rattle.std.proofs.Common.{◌≡◌, ◌+◌, ◌==◌, ◌&&◌, ◌||◌, ℕ, List, [], ◌∷◌, ◌++◌, Bool, true, false, cond, not, map, refl, sym, ap, ◌∙◌, append_assoc, append-nil, inl, inr}
 use Rattle.std.proofs.lemmas.Bool.{and_parts, and_from, cases_Bool, true≢false, not-true}
+use Rattle.std.proofs.lemmas.List.{map-append}
+use Rattle.std.proofs.lemmas.List.Folds.{list_all-append}
 use Rattle.std.specs.List.{list_all}
 use Rattle.std.specs.Prelude.{codes}
 use Rattle.astg_lex.specs.Lines.{lines_of, with_byte, code_of, may_stand, has_bad_byte}
@@ -76,9 +78,9 @@ pub record Follow (bytes : List ℕ) (row : Row) : Type 0 where
   pub are : AreWords bytes row
   pub apart : (rest : List ℕ) → begins_joining rest ≡ false → begins_joining (bytes ++ rest) ≡ false
 
+-- of two lists, all pass
 pub all-append : (f : ℕ → Bool) (xs ys : List ℕ) → list_all f xs ≡ true → list_all f ys ≡ true → list_all f (xs ++ ys) ≡ true
-all-append f [] ys h k = k
-all-append f (x ∷ xs) ys h k = let p = and_parts (f x) (list_all f xs) h in and_from (f x) (list_all f (xs ++ ys)) p.0 (all-append f xs ys p.1 k)
+all-append f xs ys h k = list_all-append f xs ys ∙ and_from (list_all f xs) (list_all f ys) h k
 
 -- words and words after them
 pub AreWords-append : (x y : List ℕ) (r s : Row) → AreWords x r → Follow y s → AreWords (x ++ y) (r ++ s)
@@ -184,17 +186,13 @@ AreLines-line bytes row h rest =
     ∙ ap (map seen_line) (lines-clean bytes rest h.clean)
     ∙ ap (λ l. l ∷ map seen_line (lines_of rest)) (seen-words bytes row h)
 
-map-append_lines : (r s : List Row) → map good_line (r ++ s) ≡ map good_line r ++ map good_line s
-map-append_lines [] s = refl
-map-append_lines (x ∷ r) s = ap (λ ls. good_line x ∷ ls) (map-append_lines r s)
-
 pub AreLines-append : (x y : List ℕ) (r s : List Row) → AreLines x r → AreLines y s → AreLines (x ++ y) (r ++ s)
 AreLines-append x y r s h k rest =
     ap (λ t. map seen_line (lines_of t)) (append_assoc x y rest)
     ∙ h (y ++ rest)
     ∙ ap (λ ls. map good_line r ++ ls) (k rest)
     ∙ sym (append_assoc (map good_line r) (map good_line s) (map seen_line (lines_of rest)))
-    ∙ ap (λ ls. ls ++ map seen_line (lines_of rest)) (sym (map-append_lines r s))
+    ∙ ap (λ ls. ls ++ map seen_line (lines_of rest)) (sym (map-append good_line r s))
 
 pub AreLines-nil : AreLines [] []
 AreLines-nil rest = refl

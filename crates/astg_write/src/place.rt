@@ -49,6 +49,7 @@ pub(crate) fn find_prefix(alloc: Global, signals: &[Signal]) -> Result<Text, NoM
             return Ok(prefix);
         }
     }
+    // Never reached: a signal begins with at most one numbered prefix, so one of these is free.
     make_prefix(alloc, count)
 }
 
