@@ -19,3 +19,4 @@ pub mod InOrder
 pub mod FreePrefix
 pub mod TextLength
 pub mod WrittenBack
+pub mod PlaceArcs

@@ -1,8 +1,10 @@
 //! The lines of the transitions and of the places.
 
-ghost use Rattle.std.specs.Prelude.{◌≡◌, ◌+◌, ◌<◌, ◌^◌, ◌++◌, length, All, OnOk};
+ghost use Rattle.std.specs.Prelude.{◌≡◌, ◌+◌, ◌-◌, ◌<◌, ◌≤◌, ◌^◌, ◌++◌, length, take, drop, All, AllPairs, OnOk};
 ghost use Rattle.std.specs.List.{list_any};
+ghost use Rattle.std.specs.List.Sorted.{IsPartitionPoint};
 ghost use Rattle.stg_net.specs.declared.arc.NetArc.{NetArc};
+ghost use Rattle.stg_net.specs.Net.{IsBefore};
 ghost use Rattle.stg_net.specs.Words.{trans_word};
 ghost use Rattle.stg_net.specs.Ordered.{listed_below};
 ghost use Rattle.astg_write.specs.ComponentText.{comes_from, goes_into, goes_out_of, weight_group, given_by, trans_line, takers_of, is_only_given, place_line, graph_lines};
@@ -79,10 +81,47 @@ fn push_trans_line(
     text.push(b'\n')
 }
 
-fn push_takers(alloc: Global, text: &mut Text, net: &Net, place: u32) -> Result<(), NoMemory>
-    ensures { OnOk result (text.new ≡ text.old ++ takers_of net.now place net.now.arcs) }
+// How many arcs are at places below that one.
+fn arcs_below(arcs: &[NetArc], place: u32) -> usize
+    requires { AllPairs IsBefore arcs.now }
+    ensures bound { result ≤ length arcs.now }
+    ensures point { IsPartitionPoint (λ (a : NetArc). a.place < place) (λ (a : NetArc). place ≤ a.place) arcs.now result }
 {
-    for arc in net.arcs() {
+    arcs.partition_point(|a| a.place < place)
+}
+
+fn arcs_between(arcs: &[NetArc], from: usize, to: usize) -> &[NetArc]
+    requires order { from ≤ to }
+    requires ends { to ≤ length arcs.now }
+    ensures { result.now ≡ take (to - from) (drop from arcs.now) }
+{
+    &arcs[from..to]
+}
+
+// The arcs of a place, which stand together.
+fn arcs_of(net: &Net, place: u32) -> &[NetArc]
+    requires { place + 1 < 2 ^ 32 }
+    ensures takers { takers_of net.now place result.now ≡ takers_of net.now place net.now.arcs }
+    ensures given { is_only_given result.now place ≡ is_only_given net.now.arcs place }
+    ensures there { All (λ (a : NetArc). a.trans < length net.now.trans) result.now }
+{
+    let arcs = net.arcs();
+    let from = arcs_below(arcs, place);
+    let to = arcs_below(arcs, place + 1);
+    arcs_between(arcs, from, to)
+}
+
+fn push_takers(
+    alloc: Global,
+    text: &mut Text,
+    net: &Net,
+    place: u32,
+    arcs: &[NetArc],
+) -> Result<(), NoMemory>
+    requires { All (λ (a : NetArc). a.trans < length net.now.trans) arcs.now }
+    ensures { OnOk result (text.new ≡ text.old ++ takers_of net.now place arcs.now) }
+{
+    for arc in arcs {
         if goes_out_of(place, arc) {
             text.push(b' ')?;
             push_trans(alloc, text, net, arc.trans)?;
@@ -120,9 +159,10 @@ fn push_place_line(
     requires { place + 1 < 2 ^ 32 }
     ensures { OnOk result (text.new ≡ text.old ++ place_line prefix.now net.now place) }
 {
-    if !is_only_given(net.arcs(), place) {
+    let arcs = arcs_of(net, place);
+    if !is_only_given(arcs, place) {
         push_place(text, prefix, place)?;
-        push_takers(alloc, text, net, place)?;
+        push_takers(alloc, text, net, place, arcs)?;
         text.push(b'\n')?;
     }
     Ok(())
