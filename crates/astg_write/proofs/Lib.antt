@@ -20,3 +20,4 @@ pub mod FreePrefix
 pub mod TextLength
 pub mod WrittenBack
 pub mod PlaceArcs
+pub mod TransArcs

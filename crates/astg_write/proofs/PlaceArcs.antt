@@ -23,7 +23,7 @@ or-none : (b : Bool) → (b || false) ≡ b
 or-none true = refl
 or-none false = refl
 
-later : (a b c r s t : List ℕ) → t ≡ r ++ s → a ++ b ++ c ++ t ≡ (a ++ b ++ c ++ r) ++ s
+pub later : (a b c r s t : List ℕ) → t ≡ r ++ s → a ++ b ++ c ++ t ≡ (a ++ b ++ c ++ r) ++ s
 later a b c r s t e = rw e (simp append_assoc)
 
 -- the takers of two lists, one after the other
@@ -73,10 +73,10 @@ module _ (p : ℕ) (xs ys zs : List NetArc) (before : All (λ (a : NetArc). a.pl
       let taken = any-middle (goes_out_of p) (not_out xs before) (not_out zs after) in
       (λ j. given j && not (taken j))
 
--- the arcs of p stand from f on and before t
-module _ (xs : List NetArc) (p f t : ℕ) (begins : f ≤ length xs) (ends : t ≤ length xs)
-    (below : IsPartitionPoint (λ (a : NetArc). a.place < p) (λ (a : NetArc). p ≤ a.place) xs f)
-    (above : IsPartitionPoint (λ (a : NetArc). a.place < p + 1) (λ (a : NetArc). p + 1 ≤ a.place) xs t) where
+-- the arcs of p by a key stand from f on and before t
+module _ (key : NetArc → ℕ) (xs : List NetArc) (p f t : ℕ) (begins : f ≤ length xs) (ends : t ≤ length xs)
+    (below : IsPartitionPoint (λ (a : NetArc). key a < p) (λ (a : NetArc). p ≤ key a) xs f)
+    (above : IsPartitionPoint (λ (a : NetArc). key a < p + 1) (λ (a : NetArc). p + 1 ≤ key a) xs t) where
   pub in-order : f ≤ t
   in-order = elim (cases_lt t f) [
     | inl less ↦
@@ -88,26 +88,46 @@ module _ (xs : List NetArc) (p f t : ℕ) (begins : f ≤ length xs) (ends : t �
   abbrev slice : List NetArc
   slice = take (t - f) (drop f xs)
 
-  cut : xs ≡ take f xs ++ (slice ++ drop t xs)
+  pub cut : xs ≡ take f xs ++ (slice ++ drop t xs)
   cut =
       let whole : f + (t - f) ≡ t = omega (arith, in-order) in
       sym (take-append-drop f xs)
       ∙ ap (λ l. take f xs ++ l) (sym (take-append-drop (t - f) (drop f xs)) ∙ ap (λ l. slice ++ l) (drop-drop (t - f) f xs ∙ ap (λ k. drop k xs) whole))
 
-  before : All (λ (a : NetArc). a.place ≢ p) (take f xs)
+  pub before : All (λ (a : NetArc). key a ≢ p) (take f xs)
   before k d b same =
       let inside : k < f = omega (arith, b, length-take-le f xs begins) in
-      let low : (get_or (take f xs) k d).place < p = subst (λ (a : NetArc). a.place < p) (sym (get_or-take f xs k d inside)) (below.0 k d (omega arith) inside) in
+      let low : key (get_or (take f xs) k d) < p = subst (λ (a : NetArc). key a < p) (sym (get_or-take f xs k d inside)) (below.0 k d (omega arith) inside) in
       omega (arith, low, same)
 
-  after : All (λ (a : NetArc). a.place ≢ p) (drop t xs)
+  pub after : All (λ (a : NetArc). key a ≢ p) (drop t xs)
   after k d b same =
       let inside : t + k < length xs = omega (arith, b, length-drop t xs) in
-      let high : p + 1 ≤ (get_or (drop t xs) k d).place = subst (λ (a : NetArc). p + 1 ≤ a.place) (sym (get_or-drop t xs k d)) (above.1 (t + k) d (omega arith) inside) in
+      let high : p + 1 ≤ key (get_or (drop t xs) k d) = subst (λ (a : NetArc). p + 1 ≤ key a) (sym (get_or-drop t xs k d)) (above.1 (t + k) d (omega arith) inside) in
       omega (arith, high, same)
 
-  pub takers-slice : (n : NetLists) → takers_of n p slice ≡ takers_of n p xs
-  takers-slice n = sym (ap (takers_of n p) cut ∙ takers-middle p (take f xs) slice (drop t xs) before after n)
+  -- what is said of all arcs is said of these
+  pub All-slice : (P : NetArc → Type 0) → All P xs → All P slice
+  All-slice P h k d b =
+      let long : length slice ≡ t - f = length-take-le (t - f) (drop f xs) (omega (arith, length-drop f xs, ends)) in
+      let same = get_or-take (t - f) (drop f xs) k d (omega (arith, b, long)) ∙ get_or-drop f xs k d in
+      subst P (sym same) (h (f + k) d (omega (arith, b, long, in-order, ends)))
 
-  pub only-slice : is_only_given slice p ≡ is_only_given xs p
-  only-slice = sym (ap (λ l. is_only_given l p) cut ∙ only-middle p (take f xs) slice (drop t xs) before after)
+module _ (xs : List NetArc) (p f t : ℕ) (begins : f ≤ length xs) (ends : t ≤ length xs)
+    (below : IsPartitionPoint (λ (a : NetArc). a.place < p) (λ (a : NetArc). p ≤ a.place) xs f)
+    (above : IsPartitionPoint (λ (a : NetArc). a.place < p + 1) (λ (a : NetArc). p + 1 ≤ a.place) xs t) where
+  abbrev place : NetArc → ℕ
+  place a = a.place
+
+  abbrev ours : List NetArc
+  ours = take (t - f) (drop f xs)
+
+  pub takers-slice : (n : NetLists) → takers_of n p ours ≡ takers_of n p xs
+  takers-slice n =
+      sym (ap (takers_of n p) (cut place xs p f t begins ends below above)
+      ∙ takers-middle p (take f xs) ours (drop t xs) (before place xs p f t begins ends below above) (after place xs p f t begins ends below above) n)
+
+  pub only-slice : is_only_given ours p ≡ is_only_given xs p
+  only-slice =
+      sym (ap (λ l. is_only_given l p) (cut place xs p f t begins ends below above)
+      ∙ only-middle p (take f xs) ours (drop t xs) (before place xs p f t begins ends below above) (after place xs p f t begins ends below above))

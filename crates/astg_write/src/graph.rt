@@ -1,14 +1,14 @@
 //! The lines of the transitions and of the places.
 
-ghost use Rattle.std.specs.Prelude.{◌≡◌, ◌+◌, ◌-◌, ◌<◌, ◌≤◌, ◌^◌, ◌++◌, length, take, drop, All, AllPairs, OnOk};
+ghost use Rattle.std.specs.Prelude.{◌≡◌, ◌+◌, ◌<◌, ◌^◌, ◌++◌, List, ℕ, length, All, OnOk};
 ghost use Rattle.std.specs.List.{list_any};
-ghost use Rattle.std.specs.List.Sorted.{IsPartitionPoint};
+ghost use Rattle.std.specs.List.Sorted.{IsNonDecreasingBy};
 ghost use Rattle.stg_net.specs.declared.arc.NetArc.{NetArc};
-ghost use Rattle.stg_net.specs.Net.{IsBefore};
 ghost use Rattle.stg_net.specs.Words.{trans_word};
 ghost use Rattle.stg_net.specs.Ordered.{listed_below};
 ghost use Rattle.astg_write.specs.ComponentText.{comes_from, goes_into, goes_out_of, weight_group, given_by, trans_line, takers_of, is_only_given, place_line, graph_lines};
 
+use crate::arcs::{arcs_by_trans, arcs_of_place, arcs_of_trans};
 use crate::number::push_number;
 use crate::place::push_place;
 use std::alloc::Global;
@@ -70,45 +70,20 @@ fn push_trans_line(
     text: &mut Text,
     prefix: &[u8],
     net: &Net,
+    arcs: &[NetArc],
     trans: u32,
 ) -> Result<(), NoMemory>
     requires there { trans < length net.now.trans }
+    requires within { length net.now.trans < 2 ^ 32 }
     requires places { length net.now.tokens < 2 ^ 32 }
+    requires rise { IsNonDecreasingBy (λ (a : NetArc). a.trans) arcs.now }
+    requires given { (p : List ℕ) (t : ℕ) → given_by p t arcs.now ≡ given_by p t net.now.arcs }
+    requires ends { All (λ (a : NetArc). a.place < length net.now.tokens) arcs.now }
     ensures { OnOk result (text.new ≡ text.old ++ trans_line prefix.now net.now trans) }
 {
     push_trans(alloc, text, net, trans)?;
-    push_given(text, prefix, trans, net.arcs())?;
+    push_given(text, prefix, trans, arcs_of_trans(arcs, trans))?;
     text.push(b'\n')
-}
-
-// How many arcs are at places below that one.
-fn arcs_below(arcs: &[NetArc], place: u32) -> usize
-    requires { AllPairs IsBefore arcs.now }
-    ensures bound { result ≤ length arcs.now }
-    ensures point { IsPartitionPoint (λ (a : NetArc). a.place < place) (λ (a : NetArc). place ≤ a.place) arcs.now result }
-{
-    arcs.partition_point(|a| a.place < place)
-}
-
-fn arcs_between(arcs: &[NetArc], from: usize, to: usize) -> &[NetArc]
-    requires order { from ≤ to }
-    requires ends { to ≤ length arcs.now }
-    ensures { result.now ≡ take (to - from) (drop from arcs.now) }
-{
-    &arcs[from..to]
-}
-
-// The arcs of a place, which stand together.
-fn arcs_of(net: &Net, place: u32) -> &[NetArc]
-    requires { place + 1 < 2 ^ 32 }
-    ensures takers { takers_of net.now place result.now ≡ takers_of net.now place net.now.arcs }
-    ensures given { is_only_given result.now place ≡ is_only_given net.now.arcs place }
-    ensures there { All (λ (a : NetArc). a.trans < length net.now.trans) result.now }
-{
-    let arcs = net.arcs();
-    let from = arcs_below(arcs, place);
-    let to = arcs_below(arcs, place + 1);
-    arcs_between(arcs, from, to)
 }
 
 fn push_takers(
@@ -159,7 +134,7 @@ fn push_place_line(
     requires { place + 1 < 2 ^ 32 }
     ensures { OnOk result (text.new ≡ text.old ++ place_line prefix.now net.now place) }
 {
-    let arcs = arcs_of(net, place);
+    let arcs = arcs_of_place(net, place);
     if !is_only_given(arcs, place) {
         push_place(text, prefix, place)?;
         push_takers(alloc, text, net, place, arcs)?;
@@ -178,8 +153,9 @@ fn push_trans_lines(
     requires trans { length net.now.trans < 2 ^ 32 }
     ensures { OnOk result (text.new ≡ text.old ++ listed_below (trans_line prefix.now net.now) (length net.now.trans)) }
 {
+    let arcs = arcs_by_trans(alloc, net)?;
     for trans in 0..net.trans().len() as u32 {
-        push_trans_line(alloc, text, prefix, net, trans)?;
+        push_trans_line(alloc, text, prefix, net, arcs.as_slice(), trans)?;
     }
     Ok(())
 }

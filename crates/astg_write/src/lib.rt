@@ -1,6 +1,7 @@
 //! The text of a component.
 #![tactic(auto)]
 
+mod arcs;
 mod component;
 mod graph;
 mod header;

@@ -3,7 +3,7 @@ use Rattle.std.proofs.lemmas.Bool.{ltb-false}
 use Rattle.std.proofs.lemmas.List.Sorted.{IsPartitionPoint-from_clause, IsPartitionedBy-ltb}
 use Rattle.stg_net.specs.declared.arc.NetArc.{NetArc}
 use Rattle.astg_write.proofs.PlaceArcs.{places_rise}
-use Rattle.astg_write.proofs.graph.arcs_below.Goals as goal
+use Rattle.astg_write.proofs.arcs.arcs_below.Goals as goal
 
 pub returns-clause-point : goal.returns-clause-point
 returns-clause-point c =
