@@ -2,6 +2,7 @@
 
 ghost use Rattle.std.specs.Prelude.{◌≡◌, ◌≤◌, ◌<◌, ◌^◌, length};
 ghost use Rattle.astg_lex.specs.Lines as all_lines;
+ghost use Rattle.stg_net.specs.Names.{IsWellNamed};
 ghost use Rattle.stg_net.specs.Net.{IsWithin};
 ghost use Rattle.stg_net.specs.declared.limits.TheConstants.Limits.{PART, SPEC};
 ghost use Rattle.astg_read.specs.Built.{AreLimits};
@@ -94,7 +95,8 @@ pub fn read_lines<'a>(
     }
 }
 
-/// Reads a text within limits, each at most that of a component; a weight of 1 is within them.
+/// Reads a text within limits, each at most that of a component; a weight of 1 is within them. It is
+/// refused exactly where it breaks a rule.
 pub fn read_with(alloc: Global, text: &[u8], limits: &Limits) -> Result<Spec, ReadError>
     requires { AreLimits limits.now }
     ensures value { IfOk result (λ s. StandsFor limits.now text.now s) }
@@ -116,7 +118,7 @@ pub fn read_with(alloc: Global, text: &[u8], limits: &Limits) -> Result<Spec, Re
     Ok(spec)
 }
 
-/// Reads a specification text.
+/// Reads a specification text within `Limits::SPEC`. It is refused exactly where it breaks a rule.
 pub fn read_spec(alloc: Global, text: &[u8]) -> Result<Spec, ReadError>
     ensures value { IfOk result (λ s. StandsFor SPEC text.now s) }
     ensures refused { IfErr result (λ e. IsUnreadBy SPEC text.now e) }
@@ -125,11 +127,13 @@ pub fn read_spec(alloc: Global, text: &[u8]) -> Result<Spec, ReadError>
     read_with(alloc, text, &Limits::SPEC)
 }
 
-/// Reads a component text, and gives its net.
+/// Reads a component text within `Limits::PART`, and gives its net. It is refused exactly where it
+/// breaks a rule.
 pub fn read_part(alloc: Global, text: &[u8]) -> Result<Net, ReadError>
     ensures value { IfOk result (λ n. StandsForNet PART text.now n) }
     ensures refused { IfErr result (λ e. IsUnreadBy PART text.now e) }
     ensures within { IfOk result (λ n. IsWithin PART n) }
+    ensures named { IfOk result (λ n. IsWellNamed n) }
 {
     match read_with(alloc, text, &Limits::PART) {
         Ok(spec) => Ok(spec.into_net()),

@@ -59,7 +59,8 @@ impl Spec {
 
     /// The net, without the names of the places.
     pub fn into_net(self) -> Net
-        ensures { result ≡ self.net }
+        ensures net { result ≡ self.net }
+        ensures spec { IsSpec self }
     {
         let Spec {
             net,
