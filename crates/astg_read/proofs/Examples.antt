@@ -1,20 +1,8 @@
--- Worked examples of the definition.
-use Rattle.std.specs.Prelude.{◌≡◌, ℕ, [], ◌∷◌, ◌++◌, codes, refl, ⊤}
-use Rattle.stg_net.specs.declared.limits.Limits.{Limits}
-use Rattle.astg_read.specs.declared.rule.Rule.{Rule}
+-- Worked examples of texts that are read or refused.
+use Rattle.std.specs.Prelude.{[], ◌∷◌, ◌++◌, codes, refl, false}
 use Rattle.astg_read.specs.declared.rule.Rule.TheVariants as rules
-use Rattle.std.specs.Prelude.{false, Result, Ok, Err}
-use Rattle.astg_read.specs.Reading.{Fault, Meaning, reading}
-
-abbrev spec : Limits
-spec = record { bytes = 1048576; signals = 250; trans = 1000; places = 2000; arcs = 20000; weight = 1000 }
-
-abbrev is_fault : Rule → ℕ → Result Meaning Fault → Type 0
-is_fault rule line r = r ≡ Err (record { rule = rule; line = line })
-
-abbrev is_good : Result Meaning Fault → Type 0
-is_good (Ok m) = ⊤
-is_good (Err f) = ⊥
+use Rattle.astg_read.specs.Reading.{reading}
+use Rattle.astg_read.proofs.ExampleWords.{spec, is_fault, is_good}
 
 base : is_good (reading false spec (codes ".inputs a\n.outputs x\n.graph\na+ x+\n.marking { }\n.end\n"))
 base = tt

@@ -1,3 +1,4 @@
+mod ExampleWords
 mod Examples
 mod RawExamples
 mod LimitExamples

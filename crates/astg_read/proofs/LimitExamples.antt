@@ -1,18 +1,15 @@
 -- Worked examples of limits and of what a text stands for.
-use Rattle.std.specs.Prelude.{◌≡◌, ℕ, [], ◌∷◌, codes, refl, true, false, Result, Ok, Err}
+use Rattle.std.specs.Prelude.{◌≡◌, ℕ, [], ◌∷◌, codes, refl, true, false, Ok}
 use Rattle.stg_net.specs.declared.limits.Limits.{Limits}
 use Rattle.stg_net.specs.declared.signal.Kind.TheVariants.{Input, Output}
 use Rattle.stg_net.specs.declared.trans.Edge.TheVariants.{Rise, Fall}
-use Rattle.astg_read.specs.declared.rule.Rule.{Rule}
 use Rattle.astg_read.specs.declared.rule.Rule.TheVariants as rules
 use Rattle.astg_read.specs.Graphs.{Named, Between}
-use Rattle.astg_read.specs.Reading.{Fault, Meaning, reading}
+use Rattle.astg_read.specs.Reading.{reading}
+use Rattle.astg_read.proofs.ExampleWords.{is_fault}
 
 abbrev within : ℕ → ℕ → ℕ → ℕ → Limits
 within signals trans places arcs = record { bytes = 200; signals = signals; trans = trans; places = places; arcs = arcs; weight = 9 }
-
-abbrev is_fault : Rule → ℕ → Result Meaning Fault → Type 0
-is_fault rule line r = r ≡ Err (record { rule = rule; line = line })
 
 too_long : is_fault rules.TooLong 0 (reading false (record { bytes = 3; signals = 9; trans = 9; places = 9; arcs = 9; weight = 9 }) (codes "\n\n.x"))
 too_long = refl
