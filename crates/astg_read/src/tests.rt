@@ -1,6 +1,6 @@
 //! That texts are read and refused.
 
-use crate::{ReadError, Rule, read_spec};
+use crate::{ReadError, Rule, read_part, read_spec};
 use std::test::Fail;
 
 #[test]
@@ -26,5 +26,17 @@ fn refuses_by_line_and_rule(rt: HostRuntime) -> Result<(), Fail> {
         let refused = ReadError::Refused { rule, line };
         assert_eq!(rt; read_spec(rt.alloc(), text).err(), Some(refused));
     }
+    Ok(())
+}
+
+#[test]
+fn reads_a_part_within_its_own_limits(rt: HostRuntime) -> Result<(), Fail> {
+    let text = b".model part1\n.outputs x\n.graph\nx+ p1(1001)\np1\n.marking { p1=1001 }\n.end\n";
+    assert_eq!(rt; read_part(rt.alloc(), text)?.tokens(), [1001].as_slice());
+    let refused = ReadError::Refused {
+        rule: Rule::BadWeight,
+        line: 4,
+    };
+    assert_eq!(rt; read_spec(rt.alloc(), text).err(), Some(refused));
     Ok(())
 }
