@@ -1,5 +1,5 @@
 -- The definitions computed on worked texts.
-use Rattle.std.proofs.Common.{◌≡◌, ℕ, List, [], ◌∷◌, ◌++◌, true, false, map, refl}
+use Rattle.std.proofs.Common.{◌≡◌, [], ◌∷◌, ◌++◌, true, false, refl}
 use Rattle.std.specs.Prelude.{codes}
 use Rattle.astg_lex.specs.Lines.{lines_of, line_ends, code_of, has_bad_byte}
 use Rattle.astg_lex.specs.Words.{words_at, words_of}

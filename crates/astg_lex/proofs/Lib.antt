@@ -1,3 +1,4 @@
+pub mod ListLemmas
 pub mod WordLemmas
 pub mod LineLemmas
 pub mod SpanLemmas

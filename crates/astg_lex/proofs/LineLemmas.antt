@@ -1,5 +1,5 @@
 -- The first line of a text, and what stands before its comment.
-use Rattle.std.proofs.Common.{◌≡◌, ◌+◌, ◌<◌, ◌≤◌, ◌==◌, ℕ, suc, List, [], ◌∷◌, ◌++◌, true, false, cond, inl, inr, arith, drop, take, length, refl, sym, ap, subst, ◌∙◌, ◌-◌, length-drop, take_all, append_assoc}
+use Rattle.std.proofs.Common.{◌≡◌, ◌+◌, ◌<◌, ◌==◌, ℕ, suc, List, [], ◌∷◌, ◌++◌, true, false, cond, inl, inr, arith, drop, take, length, refl, sym, ap, subst, ◌∙◌, ◌-◌, length-drop, take_all, append_assoc}
 use Rattle.std.proofs.lemmas.List.{take-append-drop}
 use Rattle.astg_lex.proofs.SpanLemmas.{spans_of}
 use Rattle.std.proofs.lemmas.Bool.{cases_Bool}
@@ -8,26 +8,12 @@ use Rattle.astg_lex.specs.Words.{words_at}
 use Rattle.astg_lex.specs.Lexing.{Lexing, Advances, left, shown, AreSpans}
 use Rattle.astg_lex.specs.declared.words.Word.{Word}
 
-pub code_length-most : (line : List ℕ) → code_length line ≤ length line
-code_length-most [] = omega arith
-code_length-most (b ∷ bs) = elim (cases_Bool (b == 35)) [
-  | inl k ↦ omega (arith, ap (λ s. cond s 0 (suc (code_length bs))) k)
-  | inr k ↦ omega (arith, ap (λ s. cond s 0 (suc (code_length bs))) k, code_length-most bs)
-]
-
 -- what the first bytes are
 pub code_of-take : (line : List ℕ) → take (code_length line) line ≡ code_of line
 code_of-take [] = refl
 code_of-take (b ∷ bs) = elim (cases_Bool (b == 35)) [
   | inl k ↦ ap (λ s. take (cond s 0 (suc (code_length bs))) (b ∷ bs)) k ∙ sym (ap (λ s. cond s [] (b ∷ code_of bs)) k)
   | inr k ↦ ap (λ s. take (cond s 0 (suc (code_length bs))) (b ∷ bs)) k ∙ ap (λ l. b ∷ l) (code_of-take bs) ∙ sym (ap (λ s. cond s [] (b ∷ code_of bs)) k)
-]
-
-pub line_length-most : (bytes : List ℕ) → line_length bytes ≤ length bytes
-line_length-most [] = omega arith
-line_length-most (b ∷ bs) = elim (cases_Bool (b == 10)) [
-  | inl k ↦ omega (arith, ap (λ s. cond s 0 (suc (line_length bs))) k)
-  | inr k ↦ omega (arith, ap (λ s. cond s 0 (suc (line_length bs))) k, line_length-most bs)
 ]
 
 -- the first n bytes are a line, and the others begin after one more

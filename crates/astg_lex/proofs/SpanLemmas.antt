@@ -1,24 +1,11 @@
 -- The words of bytes stand where they say.
-use Rattle.std.proofs.Common.{◌≡◌, ◌+◌, ◌-◌, ◌≤◌, ℕ, suc, zero, List, [], ◌∷◌, ◌++◌, inl, inr, arith, drop, take, length, length-drop, drop-drop, refl, sym, ap, subst, ◌∙◌}
+use Rattle.std.proofs.Common.{◌≡◌, ◌+◌, ◌-◌, ◌≤◌, ℕ, suc, zero, List, [], ◌∷◌, ◌++◌, inl, inr, arith, drop, take, length, length-drop, drop-drop, sym, ap, subst, ◌∙◌}
 use Rattle.std.proofs.lemmas.Bool.{cases_Bool}
+use Rattle.std.proofs.lemmas.List.{take-append-le, drop-append-le}
 use Rattle.std.specs.Prelude.{slice_range}
 use Rattle.astg_lex.specs.Words.{WordAt, words_at, is_blank, word_length}
 use Rattle.astg_lex.specs.Lexing.{AreSpans}
 use Rattle.astg_lex.proofs.WordLemmas.{words_at-blank, words_at-word, word_length-most, word_length-least}
-
-take-front : (n : ℕ) (xs ys : List ℕ) → n ≤ length xs → take n (xs ++ ys) ≡ take n xs
-take-front zero [] [] h = refl
-take-front zero [] (y ∷ ys) h = refl
-take-front zero (x ∷ xs) ys h = refl
-take-front (suc n) [] ys h = absurd (omega (arith, h))
-take-front (suc n) (x ∷ xs) ys h = ap (λ l. x ∷ l) (take-front n xs ys (omega (arith, h)))
-
-drop-front : (n : ℕ) (xs ys : List ℕ) → n ≤ length xs → drop n (xs ++ ys) ≡ drop n xs ++ ys
-drop-front zero [] [] h = refl
-drop-front zero [] (y ∷ ys) h = refl
-drop-front zero (x ∷ xs) ys h = refl
-drop-front (suc n) [] ys h = absurd (omega (arith, h))
-drop-front (suc n) (x ∷ xs) ys h = drop-front n xs ys (omega (arith, h))
 
 weaker : (text : List ℕ) (a b : ℕ) (ws : List WordAt) → a ≤ b → AreSpans text b ws → AreSpans text a ws
 weaker text a b [] h s = tt
@@ -38,9 +25,9 @@ spans_within (suc n) text at (b ∷ bs) rest short e = elim (cases_Bool (is_blan
       let most : m ≤ length (b ∷ bs) = word_length-most (b ∷ bs) in
       let least : 1 ≤ m = word_length-least (b ∷ bs) (omega arith) k in
       let P : List WordAt → Type 0 = λ ws. AreSpans text at ws in
-      let later : drop (at + m) text ≡ drop m (b ∷ bs) ++ rest = drop-more m ∙ ap (drop m) e ∙ drop-front m (b ∷ bs) rest most in
+      let later : drop (at + m) text ≡ drop m (b ∷ bs) ++ rest = drop-more m ∙ ap (drop m) e ∙ drop-append-le m (b ∷ bs) rest most in
       let bytes : take m (b ∷ bs) ≡ slice_range text at (at + m) =
-      sym (take-front m (b ∷ bs) rest most) ∙ ap (take m) (sym e) ∙ ap (λ i. take i (drop at text)) (let s : m ≡ (at + m) - at = omega arith in s) in
+      sym (take-append-le m (b ∷ bs) rest most) ∙ ap (take m) (sym e) ∙ ap (λ i. take i (drop at text)) (let s : m ≡ (at + m) - at = omega arith in s) in
       subst P (sym (words_at-word at (b ∷ bs) (omega arith) k))
       (omega arith, omega (arith, least), bytes, spans_within n text (at + m) (drop m (b ∷ bs)) rest (omega (arith, short, most, least, length-drop m (b ∷ bs))) later)
 ]

@@ -1,6 +1,6 @@
 //! The lines of a text, one after the other.
 
-ghost use Rattle.std.specs.Prelude.{◌≡◌, ◌≢◌, ◌↔◌, ◌+◌, ◌≤◌, ◌<◌, ◌^◌, length, List, [], true, false, Ok, None, IfOk, IfSome, OnErr, IfErr, IsErrOf, ◌⊎◌};
+ghost use Rattle.std.specs.Prelude.{◌≡◌, ◌≢◌, ◌↔◌, ◌+◌, ◌≤◌, ◌<◌, length, [], true, Ok, None, IfOk, IfSome, OnErr, IfErr, IsErrOf, ◌⊎◌};
 ghost use Rattle.astg_lex.specs.Lexing.{Advances, lines_left, this_line, start_of};
 ghost use Rattle.astg_lex.specs.Lines.{has_bad_byte};
 ghost use Rattle.astg_lex.specs.declared.line.LexError.TheVariants.{NoMemory, BadByte};
@@ -22,6 +22,7 @@ pub struct Line<'a> {
 /// Why a line isn't given.
 #[derive(Clone, Copy, Debug, PartialEq, Eq)]
 pub enum LexError {
+    /// The next line, of this number, has a byte before its comment that may not stand.
     BadByte { line: u32 },
     NoMemory,
 }

@@ -1,6 +1,6 @@
 //! How many bytes of a text belong to what begins there.
 
-ghost use Rattle.std.specs.Prelude.{◌≡◌, ◌≤◌, ◌<◌, ℕ, false, ◌+◌, ◌∷◌, take, drop, length, slice_index};
+ghost use Rattle.std.specs.Prelude.{◌≡◌, ◌≤◌, ◌<◌, ℕ, false, ◌+◌, drop, length, slice_index};
 ghost use Rattle.std.specs.List.{list_all};
 ghost use Rattle.astg_lex.specs.Lines.{may_stand};
 ghost use Rattle.astg_lex.specs.Lines as lines;

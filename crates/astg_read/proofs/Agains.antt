@@ -1,16 +1,10 @@
 -- Lists in which nothing stands again.
 use Rattle.std.proofs.Common.{◌≡◌, List, [], ◌∷◌, ◌++◌, Bool, true, false, cond, ◌||◌, inl, inr, refl, sym, ap, ◌∙◌, append_assoc, append-nil}
+use Rattle.std.proofs.Math.Bool.{or-false, or_assoc}
+use Rattle.astg_lex.proofs.ListLemmas.{all-append}
 use Rattle.std.proofs.lemmas.Bool.{cases_Bool, and_parts, and_from, or_left, or_right}
 use Rattle.std.specs.List.{list_any, list_all}
 use Rattle.astg_read.specs.Lists.{stands_again, added, firsts}
-
-or_assoc : (a b c : Bool) → (a || (b || c)) ≡ ((a || b) || c)
-or_assoc true b c = refl
-or_assoc false b c = refl
-
-or_false : (b : Bool) → (b || false) ≡ b
-or_false true = refl
-or_false false = refl
 
 module _ {X : Type 0} (same : X → X → Bool) where
   -- first the ones, then the others after them
@@ -18,7 +12,7 @@ module _ {X : Type 0} (same : X → X → Bool) where
   again-append old [] ys = ap (λ os. stands_again same os ys) (sym (append-nil old))
   again-append old (x ∷ xs) ys =
       ap (λ b. list_any (same x) old || b) (again-append (old ++ x ∷ []) xs ys ∙ ap (λ os. stands_again same (old ++ x ∷ []) xs || stands_again same os ys) (append_assoc old (x ∷ []) xs))
-      ∙ or_assoc (list_any (same x) old) (stands_again same (old ++ x ∷ []) xs) (stands_again same (old ++ x ∷ xs) ys)
+      ∙ sym (or_assoc (list_any (same x) old) (stands_again same (old ++ x ∷ []) xs) (stands_again same (old ++ x ∷ xs) ys))
 
   -- more of them
   pub again-more : (xs ys : List X) → stands_again same [] xs ≡ false → stands_again same xs ys ≡ false → stands_again same [] (xs ++ ys) ≡ false
@@ -28,17 +22,12 @@ module _ {X : Type 0} (same : X → X → Bool) where
   again-added : (seen : List X) (x : X) → stands_again same [] seen ≡ false → stands_again same [] (added same seen x) ≡ false
   again-added seen x h = elim (cases_Bool (list_any (same x) seen)) [
     | inl k ↦ ap (λ b. stands_again same [] (cond b seen (seen ++ x ∷ []))) k ∙ h
-    | inr k ↦ ap (λ b. stands_again same [] (cond b seen (seen ++ x ∷ []))) k ∙ again-more seen (x ∷ []) h (or_false (list_any (same x) seen) ∙ k)
+    | inr k ↦ ap (λ b. stands_again same [] (cond b seen (seen ++ x ∷ []))) k ∙ again-more seen (x ∷ []) h (or-false (list_any (same x) seen) ∙ k)
   ]
 
   pub again-firsts : (seen xs : List X) → stands_again same [] seen ≡ false → stands_again same [] (firsts same seen xs) ≡ false
   again-firsts seen [] h = h
   again-firsts seen (x ∷ xs) h = again-firsts (added same seen x) xs (again-added seen x h)
-
-  -- a test of all
-  pub all-append : (p : X → Bool) (xs ys : List X) → list_all p xs ≡ true → list_all p ys ≡ true → list_all p (xs ++ ys) ≡ true
-  all-append p [] ys h k = k
-  all-append p (x ∷ xs) ys h k = let q = and_parts (p x) (list_all p xs) h in and_from (p x) (list_all p (xs ++ ys)) q.0 (all-append p xs ys q.1 k)
 
   all-added : (p : X → Bool) (seen : List X) (x : X) → list_all p seen ≡ true → p x ≡ true → list_all p (added same seen x) ≡ true
   all-added p seen x h k = elim (cases_Bool (list_any (same x) seen)) [

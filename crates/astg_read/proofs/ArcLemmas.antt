@@ -179,9 +179,6 @@ module _ (b : Building) (ts : List TransName) (ps : List PlaceAt) (p : Pair) (r 
   pub arc-new : (a : NetArc) → IsArcFrom ts ps p.source p.target a → All (λ c. HasEnds a c → ⊥) b.lists.arcs
   arc-new a f = subst (All (λ c. HasEnds a c → ⊥)) (sym r.arcs_are) (arc-fresh ts ps p a r.done f r.done_there r.fresh)
 
-  pub first-arc : AllArcs (IsArcFrom ts ps p.source p.target) (arcs_of ts ps p)
-  first-arc = arcs-from ts ps (unwrap_or p.weight 1) p.source p.target r.there.source_there r.there.target_there r.there.between_there
-
   pub meets : (a : NetArc) → IsArcFrom ts ps p.source p.target a → Meets b a
   meets a f = record {
     place = subst (λ (y : NetArc). y.place < length b.lists.tokens) (sym f.is) (place-below f.arrow.place f.inside.1);

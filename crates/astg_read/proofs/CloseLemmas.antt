@@ -1,5 +1,6 @@
 -- Where a marking ends.
-use Rattle.std.proofs.Common.{◌≡◌, ◌+◌, ◌-◌, ◌<◌, ℕ, zero, suc, List, [], ◌∷◌, Bool, true, false, cond, not, ◌||◌, ◌==◌, nat_lt, inl, inr, take, drop, get_or, length, refl, sym, ap, ◌∙◌, arith}
+use Rattle.std.proofs.Common.{◌≡◌, ◌+◌, ◌-◌, ◌<◌, ℕ, zero, suc, List, [], ◌∷◌, true, false, cond, ◌||◌, nat_lt, inl, inr, take, drop, get_or, length, refl, sym, ap, ◌∙◌, arith}
+use Rattle.std.proofs.Math.Bool.{or-false}
 use Rattle.std.proofs.lemmas.Bool.{cases_Bool, cases_lt, lt-ltb, le-ltb, true≢false, or_right}
 use Rattle.std.proofs.lemmas.Slice.Eq.{bytes_eq-Decides}
 use Rattle.std.specs.Prelude.{codes}
@@ -11,25 +12,6 @@ use Rattle.astg_read.specs.Rows.{Word, Row}
 use Rattle.astg_read.specs.Header.{Declared}
 use Rattle.astg_read.specs.Graphs.{PlaceAt}
 use Rattle.astg_read.specs.Markings.{is_opening, is_closing, before_close, after_close, close_length, entries_after, has_bad_entry, is_bad_marking}
-
-or_false : (b : Bool) → (b || false) ≡ b
-or_false true = refl
-or_false false = refl
-
--- a list with items
-pub positive : (n : ℕ) → (n == 0) ≡ false → 0 < n
-positive zero h = absurd (true≢false h)
-positive (suc n) h = omega arith
-
-pub words-take : (n : ℕ) (words : List (Bor (List ℕ))) → shown_words (take n words) ≡ take n (shown_words words)
-words-take zero [] = refl
-words-take (suc n) [] = refl
-words-take zero (w ∷ words) = refl
-words-take (suc n) (w ∷ words) = ap (λ ws. w.now ∷ ws) (words-take n words)
-
--- the entries of the first words
-pub entries-first : (n m : ℕ) (words : List (Bor (List ℕ))) → n ≡ m → entries_after zero (shown_words (take n words)) ≡ entries_after zero (take m (shown_words words))
-entries-first n m words e = ap (entries_after zero) (words-take n words ∙ ap (λ k. take k (shown_words words)) e)
 
 -- the words before the first } are the first ones
 pub before-take : (ws : Row) → before_close ws ≡ take (close_length ws) ws
@@ -82,18 +64,11 @@ module _ (most : ℕ) (d : Declared) (places : List PlaceAt) where
       let e : w ≡ codes "{" = (bytes_eq-Decides w (codes "{")).0 h in
       ap (λ v. is_bad_marking most d places (v ∷ ws)) e
 
-  pub not-opened : (w : Word) (ws : Row) → is_opening w ≡ false → is_bad_marking most d places (w ∷ ws) ≡ true
-  not-opened w ws h = ap (λ b. (not b || has_bad_entry most d places (list_any is_closing (w ∷ ws)) [] (entries_after zero (before_close ws))) || nat_lt 0 (length (after_close (w ∷ ws)))) h
-
   -- the same of words that are slices of the text
   opened-words : (words : List (Bor (List ℕ))) (x : Bor (List ℕ)) → 0 < length words → is_opening (get_or words 0 x).now ≡ true
       → is_bad_marking most d places (shown_words words) ≡ (has_bad_entry most d places (list_any is_closing (shown_words (drop 1 words))) [] (entries_after zero (before_close (shown_words (drop 1 words)))) || nat_lt 0 (length (after_close (shown_words (drop 1 words)))))
   opened-words [] x some h = absurd (omega (arith, some))
   opened-words (w ∷ ws) x some h = opened w.now (shown_words ws) h
-
-  pub not-opened-words : (words : List (Bor (List ℕ))) (x : Bor (List ℕ)) → 0 < length words → is_opening (get_or words 0 x).now ≡ false → is_bad_marking most d places (shown_words words) ≡ true
-  not-opened-words [] x some h = absurd (omega (arith, some))
-  not-opened-words (w ∷ ws) x some h = not-opened w.now (shown_words ws) h
 
   module _ (words : List (Bor (List ℕ))) (x : Bor (List ℕ)) (some : 0 < length words) (h : is_opening (get_or words 0 x).now ≡ true) (rest : List (Bor (List ℕ))) (e : rest ≡ drop 1 words) (count : ℕ) (k : count ≡ close_length (shown_words rest)) where
     abbrev long : ℕ
@@ -113,4 +88,4 @@ module _ (most : ℕ) (d : Declared) (places : List PlaceAt) where
 
     -- none do
     pub not-followed : nat_lt 1 (long - count) ≡ false → is_bad_marking most d places (shown_words words) ≡ has_bad_entry most d places (nat_lt count long) [] (entries_after zero (take count (shown_words rest)))
-    not-followed t = by_rest ∙ ap (λ b. has_bad_entry most d places (nat_lt count long) [] (entries_after zero (take count (shown_words rest))) || b) t ∙ or_false (has_bad_entry most d places (nat_lt count long) [] (entries_after zero (take count (shown_words rest))))
+    not-followed t = by_rest ∙ ap (λ b. has_bad_entry most d places (nat_lt count long) [] (entries_after zero (take count (shown_words rest))) || b) t ∙ or-false (has_bad_entry most d places (nat_lt count long) [] (entries_after zero (take count (shown_words rest))))

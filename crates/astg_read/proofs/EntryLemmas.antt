@@ -1,7 +1,8 @@
 -- The entries of a marking's words, one after the other.
 use Rattle.std.proofs.Common.{◌≡◌, ◌+◌, ◌-◌, ◌<◌, ◌≤◌, ℕ, zero, suc, List, [], ◌∷◌, ◌++◌, drop, take, length, get_or, refl, sym, ap, ◌∙◌, arith, None, take_all, length-drop, append_assoc}
+use Rattle.astg_lex.proofs.ListLemmas.{passed-over}
 use Rattle.std.specs.Borrow.{Bor}
-use Rattle.std.proofs.lemmas.List.{map-append, length-map}
+use Rattle.std.proofs.lemmas.List.{map-append, length-map, drop-map}
 use Rattle.stg_net.specs.declared.signal.Signal.{Signal}
 use Rattle.astg_read.specs.declared.entries.Entry.{Entry as ReadEntry}
 use Rattle.astg_read.specs.Rows.{Word, Row}
@@ -10,21 +11,13 @@ use Rattle.astg_read.specs.Markings.{Entry, entry_at, further_words, front_entry
 use Rattle.astg_read.specs.Nodes.{trans_of}
 use Rattle.astg_read.specs.Shown.{shown_words, shown_entry, shown_entries}
 
+-- words that are passed over
 pub skipped : (n : ℕ) (ws : Row) → entries_after n ws ≡ entries_after zero (drop n ws)
-skipped zero [] = refl
-skipped (suc n) [] = refl
-skipped zero (w ∷ ws) = refl
-skipped (suc n) (w ∷ ws) = skipped n ws
+skipped n ws = passed-over entries_after (λ k. refl) (λ k w us. refl) n ws
 
 -- the entry in front, and those after its words
 from_front : (w : Word) (ws : Row) (n : ℕ) → n ≡ suc (further_words (entry_at w ws)) → entries_after zero (w ∷ ws) ≡ entry_at w ws ∷ entries_after zero (drop n (w ∷ ws))
 from_front w ws n e = ap (λ es. entry_at w ws ∷ es) (skipped (further_words (entry_at w ws)) ws) ∙ ap (λ k. entry_at w ws ∷ entries_after zero (drop k (w ∷ ws))) (sym e)
-
-pub words-drop : (n : ℕ) (words : List (Bor (List ℕ))) → shown_words (drop n words) ≡ drop n (shown_words words)
-words-drop zero [] = refl
-words-drop (suc n) [] = refl
-words-drop zero (w ∷ words) = refl
-words-drop (suc n) (w ∷ words) = words-drop n words
 
 pub one-more : (place : Row) (tokens : ℕ) → 1 ≤ length place → length place + tokens ≡ suc (length (drop 1 place) + tokens)
 one-more [] t h = absurd (omega (arith, h))
@@ -44,7 +37,7 @@ pub entries-preserved : (old new : List ReadEntry) (e : ReadEntry) (rest : List 
     → shown_entries new ++ entries_after zero (shown_words (take (length rest - n) (drop n rest))) ≡ shown_entries old ++ entries_after zero (shown_words rest)
 entries-preserved old new e rest n pushed shows least count some =
     let left : shown_words (take (length rest - n) (drop n rest)) ≡ drop n (shown_words rest) =
-    ap shown_words (take_all (length rest - n) (drop n rest) (omega (arith, length-drop n rest))) ∙ words-drop n rest in
+    ap shown_words (take_all (length rest - n) (drop n rest) (omega (arith, length-drop n rest))) ∙ sym (drop-map (λ (w : Bor (List ℕ)). w.now) n rest) in
     let p : length (shown_entry e).place ≡ length e.place.now = length-map e.place.now (λ (w : Bor (List ℕ)). w.now) in
     let t : length (shown_entry e).tokens ≡ length e.tokens.now = length-map e.tokens.now (λ (w : Bor (List ℕ)). w.now) in
     let front = cut-front rest (shown_entry e) n some shows (omega (arith, least, p)) (omega (arith, count, p, t)) in

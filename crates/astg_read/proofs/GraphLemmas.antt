@@ -11,17 +11,14 @@ use Rattle.astg_read.specs.declared.graph.Place.{Place}
 use Rattle.astg_read.specs.declared.graph.Ends.{Ends}
 use Rattle.astg_read.specs.contracts.graph.PlacePartialEq.TheImpl as places
 use Rattle.astg_read.specs.contracts.graph.EndsPartialEq.TheImpl as ends
-use Rattle.astg_read.specs.Lists.{added, firsts}
+use Rattle.astg_read.specs.Lists.{added}
 use Rattle.astg_read.specs.Nodes.{Node, Trans, same_trans}
 use Rattle.astg_read.specs.Nodes as At
-use Rattle.astg_read.specs.Graphs.{Pair, PlaceAt, same_pair, same_place, trans_at, place_at, place_between, arcs, arcs_of, arcs_between}
-use Rattle.astg_read.specs.Known.{GraphLists}
-use Rattle.astg_read.specs.Steps.{with_node, with_between, with_targets, trans_in, places_in}
+use Rattle.astg_read.specs.Graphs.{Pair, PlaceAt, same_pair, same_place, arcs, arcs_of, arcs_between}
 use Rattle.astg_read.specs.Shown.{shown_place, shown_weighed}
 use Rattle.astg_read.proofs.Keyed.{any-seen, position-seen, position-entry, keys-added}
 use Rattle.astg_read.proofs.NumberLemmas.{any-found, any-missing}
 use Rattle.astg_read.proofs.SameLemmas.{trans-same, places-same, ends-same}
-use Rattle.astg_read.proofs.StepLemmas.{firsts-append}
 
 -- a transition is added where it isn't there
 pub trans-added : (ts : List TransName) (t : TransName) → insert_key (transitions.eq-value).it ts t ≡ added same_trans ts t
@@ -38,13 +35,6 @@ place-among ps p = any-seen ((places.eq-value).it p) (same_place (shown_place p)
 -- a place's index among the keys is its number
 pub position-places : (ps : List Place) (p : Place) → position ((places.eq-value).it p) ps ≡ position (same_place (shown_place p)) (map shown_place ps)
 position-places ps p = position-seen ((places.eq-value).it p) (same_place (shown_place p)) shown_place (places-same p) ps
-
--- the targets of one more pair
-pub with_targets-cons : (g : GraphLists) (p : Pair) (ps : List Pair) → with_targets (with_between (with_node g p.target) p.source p.target) ps ≡ with_targets g (p ∷ ps)
-with_targets-cons g p ps =
-    let t = sym (firsts-append same_trans g.trans (trans_at p.target) (trans_in ps)) in
-    let q = sym (firsts-append same_place g.places (place_at p.target ++ place_between p.source p.target) (places_in ps) ∙ ap (λ s. firsts same_place s (places_in ps)) (firsts-append same_place g.places (place_at p.target) (place_between p.source p.target))) in
-    (λ j. record { trans = t j; places = q j; pairs = g.pairs })
 
 -- the index of two ends among the keys is that of the pair
 position-pairs : (e : Ends) (w : Option ℕ) (es : List (Ends × Option ℕ)) → position ((ends.eq-value).it e) (keys_of es) ≡ position (same_pair (shown_weighed (e, w))) (map shown_weighed es)

@@ -1,5 +1,6 @@
 -- What a line of the graph adds is there.
 use Rattle.std.proofs.Common.{◌≡◌, ℕ, zero, List, [], ◌∷◌, ◌++◌, Bool, true, false, ◌||◌, ◌&&◌, nat_eq, length, filter_map, refl, sym, ap, subst, ◌∙◌, Some, None, Option, option_map, is_some, append-nil, arith}
+use Rattle.astg_lex.proofs.ListLemmas.{all-append}
 use Rattle.std.proofs.lemmas.Bool.{and_parts, and_from, false≢true, ne_eqb}
 use Rattle.std.proofs.lemmas.Slice.Eq.{bytes_eq-Decides}
 use Rattle.std.specs.List.{list_any, list_all, cons_option}
@@ -13,7 +14,7 @@ use Rattle.astg_read.specs.Targets.{Target, targets_after, is_weight, weight_of,
 use Rattle.astg_read.specs.Graphs.{Pair, PlaceAt, Named, Between, same_place, trans_at, place_at, place_between, pair_of, pairs_on, trans_on, places_on}
 use Rattle.astg_read.specs.Steps.{trans_in, places_in}
 use Rattle.astg_read.specs.Sound.{is_trans_in, is_place_in, is_weighed, IsNodeIn, IsBetweenIn, IsPairIn, ArePairsIn}
-use Rattle.astg_read.proofs.Agains.{any-added, all-append}
+use Rattle.astg_read.proofs.Agains.{any-added}
 use Rattle.astg_read.proofs.IndexLemmas.{IsGoodTrans, trans_of-good}
 use Rattle.astg_read.proofs.NumberLemmas.{any-firsts, same_trans-refl}
 use Rattle.astg_read.proofs.StepLemmas.{firsts-append}
@@ -152,7 +153,7 @@ target_good d (Some p) = list_all (is_trans_in (length d.signals)) (trans_at p.t
 
 cons-good : (d : Declared) (o : Option Pair) (ps : List Pair) → target_good d o → list_all (is_trans_in (length d.signals)) (trans_in ps) ≡ true → list_all (is_trans_in (length d.signals)) (trans_in (cons_option o ps)) ≡ true
 cons-good d None ps h k = k
-cons-good d (Some p) ps h k = all-append same_trans (is_trans_in (length d.signals)) (trans_at p.target) (trans_in ps) h k
+cons-good d (Some p) ps h k = all-append (is_trans_in (length d.signals)) (trans_at p.target) (trans_in ps) h k
 
 targets-good : (d : Declared) (w : Word) (ts : List Target) → list_all (is_trans_in (length d.signals)) (trans_in (filter_map (pair_of d w) ts)) ≡ true
 targets-good d w [] = refl
@@ -164,7 +165,7 @@ targets-good d w (t ∷ ts) = cons-good d (pair_of d w t) (filter_map (pair_of d
 
 pub line-good : (d : Declared) (w : Word) (ws : Row) → list_all (is_trans_in (length d.signals)) (trans_on d (w ∷ ws)) ≡ true
 line-good d w ws =
-    all-append same_trans (is_trans_in (length d.signals)) (trans_at (node_of d w) ++ []) (trans_in (pairs_on d (w ∷ ws)))
+    all-append (is_trans_in (length d.signals)) (trans_at (node_of d w) ++ []) (trans_in (pairs_on d (w ∷ ws)))
     (ap (list_all (is_trans_in (length d.signals))) (append-nil (trans_at (node_of d w))) ∙ node-good d w) (targets-good d w (targets_after zero ws))
 
 -- the transitions of places stay there
@@ -194,11 +195,11 @@ between-places ts ps (Place p) (Place q) h k = refl
 pairs-places : (ts : List TransName) (ps : List PlaceAt) (pairs : List Pair) → ArePairsIn ts ps pairs → list_all (is_place_in ts) (places_in pairs) ≡ true
 pairs-places ts ps [] h = refl
 pairs-places ts ps (p ∷ pairs) h =
-    all-append same_place (is_place_in ts) (place_at p.target ++ place_between p.source p.target) (places_in pairs)
-    (all-append same_place (is_place_in ts) (place_at p.target) (place_between p.source p.target) (node-places ts p.target) (between-places ts ps p.source p.target h.0.source_there h.0.target_there))
+    all-append (is_place_in ts) (place_at p.target ++ place_between p.source p.target) (places_in pairs)
+    (all-append (is_place_in ts) (place_at p.target) (place_between p.source p.target) (node-places ts p.target) (between-places ts ps p.source p.target h.0.source_there h.0.target_there))
     (pairs-places ts ps pairs h.1)
 
 pub line-places : (d : Declared) (w : Word) (ws : Row) (ts : List TransName) (ps : List PlaceAt) → ArePairsIn ts ps (pairs_on d (w ∷ ws)) → list_all (is_place_in ts) (places_on d (w ∷ ws)) ≡ true
 line-places d w ws ts ps h =
-    all-append same_place (is_place_in ts) (place_at (node_of d w) ++ []) (places_in (pairs_on d (w ∷ ws)))
+    all-append (is_place_in ts) (place_at (node_of d w) ++ []) (places_in (pairs_on d (w ∷ ws)))
     (ap (list_all (is_place_in ts)) (append-nil (place_at (node_of d w))) ∙ node-places ts (node_of d w)) (pairs-places ts ps (pairs_on d (w ∷ ws)) h)

@@ -1,5 +1,6 @@
 -- What each line that is taken keeps.
 use Rattle.std.proofs.Common.{◌≡◌, ℕ, ◌≤◌, List, [], ◌∷◌, ◌++◌, Bool, true, false, cond, not, drop, unwrap_or, ◌||◌, ◌&&◌, length, nat_lt, refl, sym, ap, subst, ◌∙◌, inl, inr, Some, None, Option, is_some, MatchOption, append-nil, arith}
+use Rattle.std.proofs.Math.Bool.{and-true}
 use Rattle.std.proofs.lemmas.Bool.{cases_Bool, cases_lt, lt-ltb, le-ltb, or_parts, true≢false, false≢true}
 use Rattle.std.proofs.lemmas.Slice.Eq.{bytes_eq-Decides}
 use Rattle.std.specs.Prelude.{codes, ⊤}
@@ -50,19 +51,15 @@ closed-row most k words w ws h m none e =
     let o : ((is_header (w ∷ ws) || begins (codes ".graph") (w ∷ ws)) || (is_graph_row (w ∷ ws) || begins (codes ".marking") (w ∷ ws))) ≡ false =
     sym (ap (λ b. (b && k.has_graph) || ((is_graph_row (w ∷ ws) || begins (codes ".marking") (w ∷ ws)) && (not k.has_graph || is_some k.marking))) refl
     ∙ (λ j. ((is_header (w ∷ ws) || begins (codes ".graph") (w ∷ ws)) && h j) || ((is_graph_row (w ∷ ws) || begins (codes ".marking") (w ∷ ws)) && (not (h j) || is_some (m j))))
-    ∙ (λ j. and_true (is_header (w ∷ ws) || begins (codes ".graph") (w ∷ ws)) j || and_true (is_graph_row (w ∷ ws) || begins (codes ".marking") (w ∷ ws)) j))
+    ∙ (λ j. and-true (is_header (w ∷ ws) || begins (codes ".graph") (w ∷ ws)) j || and-true (is_graph_row (w ∷ ws) || begins (codes ".marking") (w ∷ ws)) j))
     ∙ order-false most k (w ∷ ws) none in
     let p = or_parts (is_header (w ∷ ws) || begins (codes ".graph") (w ∷ ws)) (is_graph_row (w ∷ ws) || begins (codes ".marking") (w ∷ ws)) o in
     let q = or_parts (is_graph_row (w ∷ ws)) (begins (codes ".marking") (w ∷ ws)) p.1 in
     let d : is_directive (w ∷ ws) ≡ false =
-    sym (and_true (is_directive (w ∷ ws)))
+    sym (and-true (is_directive (w ∷ ws)))
     ∙ sym (λ j. is_directive (w ∷ ws) && not ((p.0 j || q.1 j) || e j))
     ∙ directive-false most k (w ∷ ws) none in
     true≢false (sym (ap not d) ∙ q.0)
-  where
-    and_true : (b : Bool) → (b && true) ≡ b
-    and_true true = refl
-    and_true false = refl
 
 -- a test that decides between a rule and none
 test-false : (b : Bool) (r : Rule) → cond b (Some r) None ≡ None → b ≡ false
@@ -193,17 +190,6 @@ kept-after limits k row kept v = by_marking k.marking refl
       | inl h ↦ kept-inside limits k words row e h kept v
       | inr h ↦ kept-outside limits k row h kept v
     ]
-
--- an empty line inside a marking breaks no rule
-pub verdict-nothing : (limits : Limits) (k : Known) → is_unfinished k.marking ≡ true → IsKept limits k → verdict limits k [] ≡ None
-verdict-nothing limits k inside kept = by_marking k.marking refl
-  where
-    by_marking : (m : Option Row) → k.marking ≡ m → verdict limits k [] ≡ None
-    by_marking None e = absurd (false≢true (sym (ap is_unfinished e) ∙ inside))
-    by_marking (Some words) e =
-        verdict-inside limits k [] inside
-        ∙ past (breaks_marking limits.weight k []) (Some BadMarking) None
-        (ap (is_bad_marking limits.weight k.declared k.places) (marking-with k (Some words) [] e ∙ append-nil words) ∙ (good-some limits.weight k words e kept.good).1)
 
 -- before the first line
 pub kept-nothing : (limits : Limits) → IsKept limits nothing

@@ -11,11 +11,11 @@ use Rattle.astg_read.specs.Targets.{Target, targets_after, words_in}
 use Rattle.astg_read.specs.Graphs.{Pair, pair_of, pairs_on, same_place, trans_at, place_at}
 use Rattle.astg_read.specs.Known.{Known, GraphLists}
 use Rattle.astg_read.specs.Markings.{is_unfinished}
-use Rattle.astg_read.specs.GraphRules.{name_fault, pair_fault, or_later}
+use Rattle.astg_read.specs.GraphRules.{name_fault, pair_fault}
 use Rattle.astg_read.specs.Steps.{with_graph_row, in_graph, after_graph, with_header, after_row, with_node, with_targets, with_pairs, trans_in, places_in}
 use Rattle.astg_read.specs.Taking.{line_fault, taken}
 use Rattle.astg_read.proofs.StepLemmas.{firsts-append}
-use Rattle.astg_read.proofs.Verdicts.{past, fault-nodes}
+use Rattle.astg_read.proofs.Verdicts.{or_later, past, fault-nodes}
 
 -- what isn't there
 pub none-from : {A : Type 0} (o : Option A) → is_some o ≡ false → o ≡ None

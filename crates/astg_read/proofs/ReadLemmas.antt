@@ -1,5 +1,5 @@
 -- What a text stands for, where some of its lines have been taken.
-use Rattle.std.proofs.Common.{◌≡◌, ◌≢◌, ◌+◌, ◌≤◌, ℕ, List, [], ◌∷◌, ◌++◌, Bool, true, false, cond, map, length, refl, sym, ap, subst, ◌∙◌, None, Some, Result, Ok, Err, ◌&&◌, drop, length-append}
+use Rattle.std.proofs.Common.{◌≡◌, ◌≢◌, ◌+◌, ◌≤◌, ℕ, List, [], ◌∷◌, ◌++◌, Bool, true, false, cond, map, length, refl, sym, ap, ◌∙◌, None, Some, Result, Ok, Err, ◌&&◌, drop, length-append}
 use Rattle.std.proofs.lemmas.Bool.{le-ltb}
 use Rattle.stg_net.specs.declared.limits.Limits.{Limits}
 use Rattle.astg_lex.specs.Lines.{lines_of, line_ends, line_length, code_of, has_bad_byte}
@@ -12,7 +12,7 @@ use Rattle.astg_read.specs.declared.rule.Rule.TheVariants.{BadByte, TooLong}
 use Rattle.astg_read.specs.Rows.{Row}
 use Rattle.astg_read.specs.Known.{Known, known}
 use Rattle.astg_read.specs.Rules.{rules, first_broken, seen_line, ends_text}
-use Rattle.astg_read.specs.Reading.{Meaning, Fault, meaning_of, or_fault, missing, reading_after, reading}
+use Rattle.astg_read.specs.Reading.{Meaning, Fault, meaning_of, or_fault, reading_after, reading}
 use Rattle.astg_read.specs.Shown.{texts}
 use Rattle.astg_read.specs.Steps.{after_row}
 use Rattle.astg_read.specs.Taking.{verdict}
@@ -29,13 +29,6 @@ pub record Reached (limits : Limits) (text : List ℕ) (l : Lexing) (k : Known) 
 
 abbrev texts_at : ℕ → List ℕ → List (List ℕ)
 texts_at at bs = map (λ (w : WordAt). w.text) (words_at at bs)
-
-abbrev is_empty : List (List ℕ) → Type 0
-is_empty [] = Unit {0}
-is_empty (w ∷ ws) = ⊥
-
-no_cons : {w : List ℕ} {ws : List (List ℕ)} → [] ≡ w ∷ ws → ⊥
-no_cons e = subst is_empty e tt
 
 abbrev extend : ℕ → List (List ℕ) → List (List ℕ)
 extend x [] = []
@@ -110,13 +103,6 @@ step-bad limits text l k r some bad =
     sym r.same ∙ ap (λ ls. reading_after false limits (line_ends text + 1) r.rows (map seen_line ls)) (lines_of-some (left l) some)
     ∙ ap (λ b. or_fault (length r.rows + 1) (first_broken (rules false limits (known r.rows) (known (r.rows ++ words_of (this_line l) ∷ [])) (record { is_bad = b; words = words_of (this_line l) }))) (cond (ends_text (known r.rows) (words_of (this_line l))) (Ok (meaning_of (known r.rows))) (reading_after false limits (line_ends text + 1) (r.rows ++ words_of (this_line l) ∷ []) (map seen_line (lines_of (drop (line_length (left l) + 1) (left l))))))) bad
     ∙ ap (λ n. Err (record { rule = BadByte; line = n + 1 })) (sym r.number_is)
-
--- the text ends too early
-pub step-last : (limits : Limits) (text : List ℕ) (l : Lexing) (k : Known) → Reached limits text l k → lines_left l ≡ []
-    → reading_after false limits (line_ends text + 1) [] (map seen_line (lines_of text)) ≡ Err (record { rule = missing k.has_graph; line = line_ends text + 1 })
-step-last limits text l k r none =
-    sym r.same ∙ ap (λ ls. reading_after false limits (line_ends text + 1) r.rows (map seen_line ls)) none
-    ∙ ap (λ (q : Known). Err (record { rule = missing q.has_graph; line = line_ends text + 1 })) (sym r.known_is)
 
 -- a text within the limit
 pub reading-within : (limits : Limits) (text : List ℕ) → length text ≤ limits.bytes → reading false limits text ≡ reading_after false limits (line_ends text + 1) [] (map seen_line (lines_of text))

@@ -1,23 +1,21 @@
 -- Settled entries of a marking, and the words after them.
+use Rattle.std.proofs.Math.Bool.{and-false}
 use Rattle.std.proofs.Common.{◌≡◌, ◌+◌, ◌-◌, ◌<◌, ◌≤◌, ℕ, zero, suc, List, [], ◌∷◌, ◌++◌, Bool, true, false, cond, not, ◌&&◌, ◌||◌, inl, inr, drop, take, length, map, nat_lt, nat_eq, refl, sym, ap, subst, ◌∙◌, arith, append_assoc, append-nil, take_all}
+use Rattle.astg_lex.proofs.ListLemmas.{take-none, drop-none}
 use Rattle.std.proofs.lemmas.Bool.{cases_Bool, or_parts}
 use Rattle.std.specs.Borrow.{Bor}
-use Rattle.std.proofs.lemmas.List.{drop-append-le, drop-drop, drop_all, length-append, length-drop, length-map, length-take-le}
+use Rattle.std.proofs.lemmas.List.{drop-append-le, drop-drop, drop_all, length-append, length-drop, length-map, length-take-le, take-map, drop-map}
 use Rattle.astg_read.specs.declared.entries.Entry.{Entry as ReadEntry}
 use Rattle.std.specs.List.{list_any}
 use Rattle.astg_read.specs.declared.settled.Settled.{Settled}
 use Rattle.astg_read.specs.Settled.{IsSettled}
 use Rattle.astg_read.specs.Shown.{shown_place, shown_words, shown_entry}
-use Rattle.astg_read.proofs.EntryLemmas.{skipped, one-more, words-drop}
-use Rattle.astg_read.proofs.CloseLemmas.{words-take, before-take, after-length}
+use Rattle.astg_read.proofs.EntryLemmas.{skipped, one-more}
+use Rattle.astg_read.proofs.CloseLemmas.{before-take, after-length}
 use Rattle.astg_read.specs.Rows.{Word, Row}
 use Rattle.astg_read.specs.Header.{Declared}
 use Rattle.astg_read.specs.Graphs.{PlaceAt}
 use Rattle.astg_read.specs.Markings.{Entry, entry_at, opens_place, is_equals, token_words, further_words, front_entry, entries_after, is_bad_entry, has_bad_entry, with_named, is_whole, is_closing, before_close, close_length, starts_entry, is_whole_place, names_one, tokens_of}
-
-take-none : (ws : Row) → take zero ws ≡ []
-take-none [] = refl
-take-none (w ∷ ws) = refl
 
 -- more words behind a word after them leave the token words
 tokens-kept : (ws more : Row) → length (token_words ws) < length ws → token_words (ws ++ more) ≡ token_words ws
@@ -69,14 +67,6 @@ entry-kept w ws more h = kept-by (opens_place w) w ws more h
 entry-whole : (w : Word) (ws : Row) → further_words (entry_at w ws) < length ws → is_whole (entry_at w ws) ≡ true
 entry-whole w ws h = whole-by (opens_place w) w ws refl h
 
-and_none : (b : Bool) → (b && false) ≡ false
-and_none true = refl
-and_none false = refl
-
-drop-none : (ws : Row) → drop zero ws ≡ ws
-drop-none [] = refl
-drop-none (w ∷ ws) = refl
-
 -- without a } all words stand before it
 before-grown : (ws line : Row) → list_any is_closing ws ≡ false → before_close (ws ++ line) ≡ ws ++ before_close line
 before-grown [] line h = refl
@@ -110,11 +100,11 @@ abbrev rest_of : List (Bor (List ℕ)) → List (Bor (List ℕ))
 rest_of words = take (length words - 1) (drop 1 words)
 
 rest-shown : (words : List (Bor (List ℕ))) → shown_words (rest_of words) ≡ drop 1 (shown_words words)
-rest-shown words = ap shown_words (take_all (length words - 1) (drop 1 words) (omega (arith, length-drop 1 words))) ∙ words-drop 1 words
+rest-shown words = ap shown_words (take_all (length words - 1) (drop 1 words) (omega (arith, length-drop 1 words))) ∙ sym (drop-map (λ (w : Bor (List ℕ)). w.now) 1 words)
 
 pub before-shown : (words : List (Bor (List ℕ))) (n : ℕ) → n ≡ close_length (shown_words (rest_of words)) → shown_words (take n (rest_of words)) ≡ before_close (drop 1 (shown_words words))
 before-shown words n k =
-    words-take n (rest_of words) ∙ ap (λ m. take m (shown_words (rest_of words))) k ∙ sym (before-take (shown_words (rest_of words))) ∙ ap before_close (rest-shown words)
+    sym (take-map (λ (w : Bor (List ℕ)). w.now) n (rest_of words)) ∙ ap (λ m. take m (shown_words (rest_of words))) k ∙ sym (before-take (shown_words (rest_of words))) ∙ ap before_close (rest-shown words)
 
 pub within-close : (words : List (Bor (List ℕ))) (n : ℕ) → n ≤ length (before_close (drop 1 (shown_words words))) → n ≤ close_length (shown_words (rest_of words))
 within-close words n h = omega (arith, h, before-length (drop 1 (shown_words words)), ap close_length (rest-shown words))
@@ -125,7 +115,7 @@ within-rest words n h = omega (arith, within-close words n h, after-length (show
 -- the } is found behind the first words
 pub close-found : (n : ℕ) (words : List (Bor (List ℕ))) (k : ℕ) → n ≤ close_length (shown_words words) → k ≡ close_length (shown_words (take (length words - n) (drop n words))) → n + k ≡ close_length (shown_words words)
 close-found n words k h e =
-    omega (arith, e, ap close_length (ap shown_words (take_all (length words - n) (drop n words) (omega (arith, length-drop n words))) ∙ words-drop n words), close-from n (shown_words words) h)
+    omega (arith, e, ap close_length (ap shown_words (take_all (length words - n) (drop n words) (omega (arith, length-drop n words))) ∙ sym (drop-map (λ (w : Bor (List ℕ)). w.now) n words)), close-from n (shown_words words) h)
 
 module _ (most : ℕ) (d : Declared) (places : List PlaceAt) where
   -- With any words behind them, these words are as wrong as those after the first ones, whose entries name these places.
@@ -140,7 +130,7 @@ module _ (most : ℕ) (d : Declared) (places : List PlaceAt) where
       with_closed b = not (starts_entry d e) || b || (is_whole_place e.place && (not (names_one d places e.place) || names_one d named e.place)) || nat_lt most (tokens_of e.tokens)
 
       whole : (b : Bool) → is_bad_entry most d places b named e ≡ with_closed false
-      whole b = ap (λ x. with_closed (b && not x)) h ∙ ap with_closed (and_none b)
+      whole b = ap (λ x. with_closed (b && not x)) h ∙ ap with_closed (and-false b)
 
   -- the entry in front is settled where a word stands after it
   judged-front : (named : List PlaceAt) (w : Word) (ws more : Row) (c c0 : Bool) → further_words (entry_at w ws) < length ws → is_bad_entry most d places c0 named (entry_at w ws) ≡ false
@@ -193,13 +183,6 @@ module _ (most : ℕ) (d : Declared) (places : List PlaceAt) where
       ∙ ap (λ b. b || has_bad_entry most d places c (with_named d named f.place) (entries_after (further_words f) ws)) (ap (is_bad_entry most d places c named) (sym is) ∙ good)
       ∙ ap (has_bad_entry most d places c (with_named d named f.place)) (skipped (further_words f) ws ∙ ap (entries_after zero) (drop_all (further_words f) ws (omega (arith, all, ap (λ (x : Entry). further_words x) is))))
 
-  -- no entry is settled
-  pub settled-nothing : (s : Settled) (words : Row) → s.words ≡ 0 → s.named.keys ≡ [] → IsSettled most d places s words
-  settled-nothing s words none unnamed = record {
-    within = omega (arith, none);
-    judged = λ c more. (λ j. has_bad_entry most d places c (map shown_place (sym unnamed j)) (entries_after zero ((sym (drop-none words) ∙ ap (λ n. drop n words) (sym none)) j ++ more)));
-  }
-
   -- words that are added leave what is settled
   pub settled-longer : (s : Settled) (words more : Row) → IsSettled most d places s words → IsSettled most d places s (words ++ more)
   settled-longer s words more h = record {
@@ -224,7 +207,7 @@ module _ (most : ℕ) (d : Declared) (places : List PlaceAt) where
     rest = take (length words - s.words) (drop s.words words)
 
     left : drop s.words (shown_words words) ≡ shown_words rest
-    left = sym (ap shown_words (take_all (length words - s.words) (drop s.words words) (omega (arith, length-drop s.words words))) ∙ words-drop s.words words)
+    left = sym (ap shown_words (take_all (length words - s.words) (drop s.words words) (omega (arith, length-drop s.words words))) ∙ sym (drop-map (λ (w : Bor (List ℕ)). w.now) s.words words))
 
     rest-length : length (shown_words rest) ≡ length words - s.words
     rest-length = length-map rest (λ (w : Bor (List ℕ)). w.now) ∙ length-take-le (length words - s.words) (drop s.words words) (omega (arith, length-drop s.words words))

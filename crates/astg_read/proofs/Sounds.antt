@@ -1,6 +1,7 @@
 -- Lines without a fault make sound lists.
 use Rattle.std.proofs.Common.{◌≡◌, ℕ, ◌≤◌, zero, List, [], ◌∷◌, ◌++◌, Bool, true, false, cond, not, drop, ◌||◌, ◌&&◌, nat_lt, length, inl, inr, refl, sym, ap, subst, ◌∙◌, Some, None, Option, append-nil, arith, length-append}
-use Rattle.std.proofs.lemmas.Bool.{cases_Bool, or_parts, and_parts, and_from, true≢false, ltb-true, lt-ltb}
+use Rattle.astg_lex.proofs.ListLemmas.{all-append}
+use Rattle.std.proofs.lemmas.Bool.{cases_Bool, or_parts, and_parts, and_from, not-false, true≢false, ltb-true, lt-ltb}
 use Rattle.std.specs.Prelude.{codes}
 use Rattle.std.specs.List.{list_any, list_all}
 use Rattle.stg_net.specs.declared.signal.Kind.{Kind}
@@ -19,7 +20,7 @@ use Rattle.astg_read.specs.Rules.{first_broken, line_rules, breaks_directive, br
 use Rattle.astg_read.specs.Steps.{after_row, after_graph, in_graph, with_names, with_graph_row, trans_in, places_in}
 use Rattle.astg_read.specs.Sound.{is_named, is_trans_in, is_place_in, is_weighed, IsSound, ArePairsIn}
 use Rattle.astg_read.specs.Taking.{line_fault}
-use Rattle.astg_read.proofs.Agains.{again-more, again-firsts, all-append, all-firsts}
+use Rattle.astg_read.proofs.Agains.{again-more, again-firsts, all-firsts}
 use Rattle.astg_read.proofs.GraphSound.{line-there, line-weighed, line-good, pairs-more, pairs-append, places-wider, line-places}
 use Rattle.astg_read.proofs.StepLemmas.{firsts-append}
 use Rattle.astg_read.proofs.Takings.{broken-head, after-begun, after-before}
@@ -28,10 +29,6 @@ use Rattle.astg_read.proofs.Takings.{broken-head, after-begun, after-before}
 named-of : (kind : Kind) (ns : Row) → list_all is_name ns ≡ true → list_all is_named (signals_of kind ns) ≡ true
 named-of kind [] h = refl
 named-of kind (n ∷ ns) h = let q = and_parts (is_name n) (list_all is_name ns) h in and_from (is_name n) (list_all is_named (signals_of kind ns)) q.0 (named-of kind ns q.1)
-
-not-false : (b : Bool) → not b ≡ false → b ≡ true
-not-false true h = refl
-not-false false h = absurd (true≢false h)
 
 named-on : (b c d e : Bool) (ns : Row) → ((b || c || d || e) && not (list_all is_name ns)) ≡ false
     → list_all is_named (cond b (signals_of Input ns) (cond c (signals_of Output ns) (cond d (signals_of Internal ns) (cond e (signals_of Internal ns) [])))) ≡ true
@@ -84,7 +81,7 @@ sound-header most k row none s =
     let n = (or_parts ((declares row && not (list_all is_name ns)) || (begins (codes ".graph") row && nat_lt 0 (length ns))) (is_graph_row row && not (list_all (is_node k.declared) (node_words row))) (names most k row none).0).0 in
     let m = (or_parts (declares row && not (list_all is_name ns)) (begins (codes ".graph") row && nat_lt 0 (length ns)) n).0 in
     record {
-      named = all-append same_name is_named k.declared.signals (signals_on row) s.named (named-on (begins (codes ".inputs") row) (begins (codes ".outputs") row) (begins (codes ".internal") row) (begins (codes ".dummy") row) ns m);
+      named = all-append is_named k.declared.signals (signals_on row) s.named (named-on (begins (codes ".inputs") row) (begins (codes ".outputs") row) (begins (codes ".internal") row) (begins (codes ".dummy") row) ns m);
       names_differ = again-more same_name k.declared.signals (signals_on row) s.names_differ (twice most k row none).0;
       trans_differ = s.trans_differ;
       trans_there = wider (length k.declared.signals) (length (k.declared.signals ++ signals_on row)) k.trans (omega (arith, length-append k.declared.signals (signals_on row))) s.trans_there;
@@ -96,10 +93,6 @@ sound-header most k row none s =
 
 and_first : (a b : Bool) → a ≡ true → (a && b) ≡ false → b ≡ false
 and_first a b h e = sym (ap (λ x. x && b) h) ∙ e
-
-not-true : (b : Bool) → not b ≡ false → b ≡ true
-not-true true h = refl
-not-true false h = absurd (true≢false h)
 
 -- a line of the graph
 sound-graph : (most : ℕ) (k : Known) (w : Word) (ws : Row) → is_graph_row (w ∷ ws) ≡ true → line_fault most k (w ∷ ws) ≡ None → IsSound most k → IsSound most (with_graph_row k (w ∷ ws))
@@ -121,7 +114,7 @@ sound-graph most k w ws g none s =
       trans_there = all-firsts same_trans (is_trans_in (length d.signals)) k.trans (trans_on d (w ∷ ws)) s.trans_there (line-good d w ws);
       places_there = all-firsts same_place (is_place_in (firsts same_trans k.trans (trans_on d (w ∷ ws)))) k.places (places_on d (w ∷ ws)) (places-wider k.trans (trans_on d (w ∷ ws)) k.places s.places_there)
           (line-places d w ws (firsts same_trans k.trans (trans_on d (w ∷ ws))) (firsts same_place k.places (places_on d (w ∷ ws))) new);
-      weighed = all-append same_pair (is_weighed most) k.pairs ps s.weighed (line-weighed most d w (targets_after zero ws) (not-true (list_all (is_good_group most) (targets_after zero ws)) goods));
+      weighed = all-append (is_weighed most) k.pairs ps s.weighed (line-weighed most d w (targets_after zero ws) (not-false (list_all (is_good_group most) (targets_after zero ws)) goods));
       pairs_there = pairs-append (firsts same_trans k.trans (trans_on d (w ∷ ws))) (firsts same_place k.places (places_on d (w ∷ ws))) k.pairs ps (pairs-more k.trans (trans_on d (w ∷ ws)) k.places (places_on d (w ∷ ws)) k.pairs s.pairs_there) new;
       pairs_differ = again-more same_pair k.pairs ps s.pairs_differ (and_first (is_graph_row (w ∷ ws)) (stands_again same_pair k.pairs ps) g (repeated most k (w ∷ ws) none).0);
     }

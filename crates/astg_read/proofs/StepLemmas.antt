@@ -1,11 +1,13 @@
 -- What the lines say grows by what each further line says.
-use Rattle.std.proofs.Common.{◌≡◌, List, [], ◌∷◌, ◌++◌, Bool, true, false, cond, ◌||◌, inl, inr, filter, flat_map, refl, sym, ap, subst, ◌∙◌, None, Some, Option, append_assoc, append-nil}
+use Rattle.std.proofs.Common.{◌≡◌, List, [], ◌∷◌, ◌++◌, Bool, true, false, cond, ◌||◌, inl, inr, filter, flat_map, refl, sym, ap, ◌∙◌, None, Some, Option, append_assoc, append-nil}
+use Rattle.std.proofs.Math.Bool.{or-false}
+use Rattle.std.proofs.lemmas.List.Folds.{list_any-append}
+use Rattle.astg_lex.proofs.ListLemmas.{cond_same}
 use Rattle.std.proofs.lemmas.List.Concat.{flat_map-append}
 use Rattle.std.proofs.lemmas.List.Elements.{filter-append}
 use Rattle.std.proofs.lemmas.Bool.{cases_Bool, or_parts, false≢true}
 use Rattle.std.proofs.Common.{option_map}
 use Rattle.std.specs.Prelude.{codes}
-use Rattle.std.specs.List.{list_any}
 use Rattle.astg_read.specs.Lists.{firsts, added}
 use Rattle.astg_read.specs.Rows.{Row, begins, after_first, has_graph, header_rows, rows_after_graph, before_marking, words_of_marking, marking_words, graph_rows, is_graph_row}
 use Rattle.astg_read.specs.Header.{Declared, declared, signals_on, dummies_on}
@@ -19,27 +21,15 @@ pub firsts-append : {X : Type 0} (same : X → X → Bool) (seen xs ys : List X)
 firsts-append same seen [] ys = refl
 firsts-append same seen (x ∷ xs) ys = firsts-append same (added same seen x) xs ys
 
-abbrev is_nothing : Option Row → Type 0
-is_nothing None = Unit {0}
-is_nothing (Some x) = ⊥
-
 none_some : {x : Row} → None ≡ Some x → ⊥
-none_some e = subst is_nothing e tt
+none_some e = cc
 
 abbrev is_start : Row → Bool
 is_start row = begins (codes ".graph") row
 
-any-append : (f : Row → Bool) (rows : List Row) (row : Row) → list_any f (rows ++ row ∷ []) ≡ (list_any f rows || f row)
-any-append f [] row = or_false (f row)
-  where
-    or_false : (b : Bool) → (b || false) ≡ b
-    or_false true = refl
-    or_false false = refl
-any-append f (r ∷ rows) row = ap (λ b. f r || b) (any-append f rows row) ∙ or_assoc (f r) (list_any f rows) (f row)
-  where
-    or_assoc : (a b c : Bool) → (a || (b || c)) ≡ ((a || b) || c)
-    or_assoc true b c = refl
-    or_assoc false b c = refl
+-- one more line may be .graph
+graph-append : (rows : List Row) (row : Row) → has_graph (rows ++ row ∷ []) ≡ (has_graph rows || is_start row)
+graph-append rows row = list_any-append is_start rows (row ∷ []) ∙ ap (λ b. has_graph rows || b) (or-false (is_start row))
 
 -- where .graph stood, nothing is added to the lines before it
 header-after : (rows : List Row) (row : Row) → has_graph rows ≡ true → header_rows (rows ++ row ∷ []) ≡ header_rows rows
@@ -71,10 +61,6 @@ after-none : (rows : List Row) → has_graph rows ≡ false → rows_after_graph
 after-none [] h = refl
 after-none (r ∷ rows) h = let k = (or_parts (is_start r) (has_graph rows) h) in
     ap (λ b. cond b rows (rows_after_graph rows)) k.0 ∙ after-none rows k.1
-
-cond_same : (b : Bool) (rows : List Row) → cond b rows rows ≡ rows
-cond_same true rows = refl
-cond_same false rows = refl
 
 after-before : (rows : List Row) (row : Row) → has_graph rows ≡ false → rows_after_graph (rows ++ row ∷ []) ≡ []
 after-before [] row h = cond_same (is_start row) []
@@ -156,14 +142,14 @@ grows-header rows row h =
     let whole = ap (λ b. cond b (after_graph (known rows) (marking_words rows) row) (with_header (known rows) row)) h in
     elim (cases_Bool (is_start row)) [
       | inl k ↦ same_known (has_graph (rows ++ row ∷ [])) true (declared (rows ++ row ∷ [])) (declared rows) (graph_rows (rows ++ row ∷ [])) (graph_rows rows) (marking_words (rows ++ row ∷ [])) (marking_words rows)
-          (any-append is_start rows row ∙ ap (λ b. b || is_start row) h ∙ k)
+          (graph-append rows row ∙ ap (λ b. b || is_start row) h ∙ k)
           (ap by_rows (header-before rows row h) ∙ ap (λ b. by_rows (rows ++ cond b [] (row ∷ []))) k ∙ ap by_rows (append-nil rows) ∙ sym names)
           graph words
           ∙ sym (whole ∙ ap (λ b. cond b (record (known rows) { has_graph = true }) (record (known rows) { declared = with_names (declared rows) row })) k)
       | inr k ↦
           let none : graph_rows rows ≡ [] = ap (λ rs. filter is_graph_row (before_marking rs)) (after-none rows h) in
           same_known (has_graph (rows ++ row ∷ [])) (has_graph rows) (declared (rows ++ row ∷ [])) (with_names (declared rows) row) (graph_rows (rows ++ row ∷ [])) [] (marking_words (rows ++ row ∷ [])) (marking_words rows)
-          (any-append is_start rows row ∙ ap (λ b. b || is_start row) h ∙ k ∙ sym h)
+          (graph-append rows row ∙ ap (λ b. b || is_start row) h ∙ k ∙ sym h)
           (ap by_rows (header-before rows row h) ∙ ap (λ b. by_rows (rows ++ cond b [] (row ∷ []))) k ∙ by_rows-after rows row ∙ ap (λ d. with_names d row) (sym names))
           (graph ∙ none) words
           ∙ ap (λ g. record (known_by (has_graph rows) (declared rows) g (marking_words rows)) { declared = with_names (declared rows) row }) (sym none)
@@ -182,7 +168,7 @@ grows-graph : (rows : List Row) (row : Row) → has_graph rows ≡ true → (wor
 grows-graph rows row h (Some words) e =
     let after = after-after rows row h in
     same_known (has_graph (rows ++ row ∷ [])) (has_graph rows) (declared (rows ++ row ∷ [])) (declared rows) (graph_rows (rows ++ row ∷ [])) (graph_rows rows) (marking_words (rows ++ row ∷ [])) (Some (words ++ row))
-    (any-append is_start rows row ∙ ap (λ b. b || is_start row) h ∙ sym h)
+    (graph-append rows row ∙ ap (λ b. b || is_start row) h ∙ sym h)
     (ap by_rows (header-after rows row h))
     (ap (λ rs. filter is_graph_row (before_marking rs)) after ∙ ap (filter is_graph_row) (marking-after (rows_after_graph rows) row words e))
     (ap words_of_marking after ∙ words-after (rows_after_graph rows) row words e)
@@ -190,7 +176,7 @@ grows-graph rows row h (Some words) e =
 grows-graph rows row h None e =
     let after = after-after rows row h in
     let whole = ap (λ b. cond b (after_graph (known rows) (marking_words rows) row) (with_header (known rows) row)) h ∙ ap (λ w. after_graph (known rows) w row) e in
-    let stood : has_graph (rows ++ row ∷ []) ≡ has_graph rows = any-append is_start rows row ∙ ap (λ b. b || is_start row) h ∙ sym h in
+    let stood : has_graph (rows ++ row ∷ []) ≡ has_graph rows = graph-append rows row ∙ ap (λ b. b || is_start row) h ∙ sym h in
     let signals : declared (rows ++ row ∷ []) ≡ declared rows = ap by_rows (header-after rows row h) in
     let graph : graph_rows (rows ++ row ∷ []) ≡ graph_rows rows ++ filter is_graph_row (cond (is_marking row) [] (row ∷ [])) =
     ap (λ rs. filter is_graph_row (before_marking rs)) after ∙ ap (filter is_graph_row) (marking-before (rows_after_graph rows) row e) ∙ filter-append is_graph_row (before_marking (rows_after_graph rows)) (cond (is_marking row) [] (row ∷ [])) in

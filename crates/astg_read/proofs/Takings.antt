@@ -1,5 +1,6 @@
 -- What comes of a line, by what it says and by the counts after it.
 use Rattle.std.proofs.Common.{◌≡◌, List, [], ◌∷◌, ◌++◌, Bool, true, false, cond, not, drop, ◌⊎◌, ◌&&◌, length, nat_lt, refl, sym, ap, subst, ◌∙◌, inl, inr, Some, None, Option, Result, Ok, Err, append-nil}
+use Rattle.std.proofs.Math.Bool.{and-true, and-false}
 use Rattle.std.proofs.lemmas.Bool.{cases_Bool, and_parts, false≢true}
 use Rattle.std.proofs.lemmas.Slice.Eq.{bytes_eq-Decides}
 use Rattle.std.specs.Prelude.{codes}
@@ -16,20 +17,11 @@ use Rattle.astg_read.specs.Markings.{is_unfinished}
 use Rattle.astg_read.specs.Known.{Known}
 use Rattle.astg_read.specs.Rules.{first_broken, line_rules, outside_rules, has_too_many, has_dummy, breaks_directive, ends_text}
 use Rattle.astg_read.specs.Steps.{after_row, after_graph, with_header}
-use Rattle.astg_read.specs.GraphRules.{or_later}
 use Rattle.astg_read.specs.Taking.{line_fault, Says, Takes, verdict, taken, counted, directive}
-use Rattle.astg_read.proofs.Verdicts.{past, stop, verdict-outside}
-
-and_true : (b : Bool) → (b && true) ≡ b
-and_true true = refl
-and_true false = refl
-
-and_false : (b : Bool) → (b && false) ≡ false
-and_false true = refl
-and_false false = refl
+use Rattle.astg_read.proofs.Verdicts.{or_later, past, stop, verdict-outside}
 
 -- the rules before and the rules after
-first_broken-append : (xs ys : List (Bool × Rule)) → first_broken (xs ++ ys) ≡ or_later (first_broken xs) (first_broken ys)
+pub first_broken-append : (xs ys : List (Bool × Rule)) → first_broken (xs ++ ys) ≡ or_later (first_broken xs) (first_broken ys)
 first_broken-append [] ys = refl
 first_broken-append (x ∷ xs) ys = elim (cases_Bool x.0) [
   | inl k ↦ stop x.0 (Some x.1) (first_broken (xs ++ ys)) k ∙ sym (ap (λ b. or_later (cond b (Some x.1) (first_broken xs)) (first_broken ys)) k)
@@ -80,10 +72,10 @@ after-end limits k ws = elim (cases_Bool k.has_graph) [
 
 -- outside a marking .end ends the text, and inside nothing does
 pub ends-outside : (k : Known) (row : Row) → is_unfinished k.marking ≡ false → ends_text k row ≡ begins (codes ".end") row
-ends-outside k row h = ap (λ u. begins (codes ".end") row && not u) h ∙ and_true (begins (codes ".end") row)
+ends-outside k row h = ap (λ u. begins (codes ".end") row && not u) h ∙ and-true (begins (codes ".end") row)
 
 pub ends-inside : (k : Known) (row : Row) → is_unfinished k.marking ≡ true → ends_text k row ≡ false
-ends-inside k row h = ap (λ u. begins (codes ".end") row && not u) h ∙ and_false (begins (codes ".end") row)
+ends-inside k row h = ap (λ u. begins (codes ".end") row && not u) h ∙ and-false (begins (codes ".end") row)
 
 pub too-taken : (limits : Limits) (k : Known) (row : Row) → has_too_many limits (after_row k row) ≡ has_too_many limits (taken k row)
 too-taken limits k row = elim (cases_Bool (ends_text k row)) [

@@ -1,19 +1,18 @@
 -- The targets of words, one after the other.
 use Rattle.std.proofs.Common.{◌≡◌, ◌<◌, ℕ, zero, suc, List, [], ◌∷◌, ◌++◌, cond, inl, inr, drop, take, length, map, refl, sym, ap, ◌∙◌, arith}
+use Rattle.astg_lex.proofs.ListLemmas.{passed-over}
 use Rattle.std.proofs.lemmas.Bool.{cases_Bool}
 use Rattle.std.proofs.Common.{◌-◌, take_all, length-drop, append_assoc}
-use Rattle.std.proofs.lemmas.List.{map-append, length-map}
+use Rattle.std.proofs.lemmas.List.{map-append, length-map, drop-map}
 use Rattle.astg_lex.specs.declared.words.Word.{Word}
 use Rattle.astg_read.specs.declared.targets.Target.{Target as ReadTarget}
 use Rattle.astg_read.specs.Shown.{texts, shown_target}
 use Rattle.astg_read.specs.Rows.{Row}
 use Rattle.astg_read.specs.Targets.{target_at, targets_after, group_at, opens_group, target_words, front_target}
 
+-- words that are passed over
 skipped : (n : ℕ) (ws : Row) → targets_after n ws ≡ targets_after zero (drop n ws)
-skipped zero [] = refl
-skipped (suc n) [] = refl
-skipped zero (w ∷ ws) = refl
-skipped (suc n) (w ∷ ws) = skipped n ws
+skipped n ws = passed-over targets_after (λ k. refl) (λ k w us. refl) n ws
 
 drop-taken : (n : ℕ) (ws : Row) → drop (length (take n ws)) ws ≡ drop n ws
 drop-taken zero [] = refl
@@ -33,18 +32,12 @@ pub targets_after-front : (ws : Row) → 0 < length ws → targets_after zero ws
 targets_after-front [] some = absurd (omega (arith, some))
 targets_after-front (w ∷ ws) some = from_front w ws
 
-texts-drop : (n : ℕ) (words : List Word) → texts (drop n words) ≡ drop n (texts words)
-texts-drop zero [] = refl
-texts-drop (suc n) [] = refl
-texts-drop zero (w ∷ words) = refl
-texts-drop (suc n) (w ∷ words) = texts-drop n words
-
 -- what is read and what is left make the same targets after one more
 pub targets-preserved : (old new : List ReadTarget) (t : ReadTarget) (rest : List Word) (n : ℕ) → new ≡ old ++ t ∷ [] → shown_target t ≡ front_target (texts rest) → n ≡ target_words (texts rest) → 0 < length rest
     → map shown_target new ++ targets_after zero (texts (take (length rest - n) (drop n rest))) ≡ map shown_target old ++ targets_after zero (texts rest)
 targets-preserved old new t rest n pushed shows count some =
     let left : texts (take (length rest - n) (drop n rest)) ≡ drop (target_words (texts rest)) (texts rest) =
-    ap texts (take_all (length rest - n) (drop n rest) (omega (arith, length-drop n rest))) ∙ texts-drop n rest ∙ ap (λ k. drop k (texts rest)) count in
+    ap texts (take_all (length rest - n) (drop n rest) (omega (arith, length-drop n rest))) ∙ sym (drop-map (λ (w : Word). w.text.now) n rest) ∙ ap (λ k. drop k (texts rest)) count in
     let front : targets_after zero (texts rest) ≡ front_target (texts rest) ∷ targets_after zero (drop (target_words (texts rest)) (texts rest)) =
     targets_after-front (texts rest) (omega (arith, some, length-map rest (λ (w : Word). w.text.now))) in
     ap (λ ts. map shown_target ts ++ targets_after zero (texts (take (length rest - n) (drop n rest)))) pushed

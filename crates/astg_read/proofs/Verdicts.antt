@@ -1,5 +1,6 @@
 -- The first rule that a line breaks, by the kind of the line.
-use Rattle.std.proofs.Common.{◌≡◌, ℕ, [], ◌∷◌, Bool, true, false, cond, not, ◌||◌, length, nat_lt, refl, ap, ◌∙◌, Some, None, Option, is_some, drop}
+use Rattle.std.proofs.Common.{◌≡◌, ℕ, [], ◌∷◌, Bool, true, false, cond, not, ◌||◌, length, nat_lt, refl, ap, ◌∙◌, Some, None, Option, is_some}
+use Rattle.std.proofs.Math.Bool.{or-false}
 use Rattle.std.specs.Prelude.{codes}
 use Rattle.std.specs.List.{list_all, list_any}
 use Rattle.stg_net.specs.declared.limits.Limits.{Limits}
@@ -7,7 +8,7 @@ use Rattle.stg_net.specs.declared.signal.Kind.{Kind}
 use Rattle.stg_net.specs.declared.signal.Kind.TheVariants.{Input, Output, Internal}
 use Rattle.stg_net.specs.Names.{is_name}
 use Rattle.astg_read.specs.declared.rule.Rule.{Rule}
-use Rattle.astg_read.specs.declared.rule.Rule.TheVariants.{UnknownDirective, OutOfOrder, BadName, DeclaredTwice, UnknownSignal, NoEdge, BadMarking, NoGraph}
+use Rattle.astg_read.specs.declared.rule.Rule.TheVariants.{OutOfOrder, BadName, DeclaredTwice, UnknownSignal, NoEdge, BadMarking, NoGraph}
 use Rattle.astg_read.specs.Lists.{stands_again}
 use Rattle.astg_read.specs.Rows.{Word, Row, begins_with_dot}
 use Rattle.astg_read.specs.Header.{same_name, signals_of}
@@ -16,14 +17,21 @@ use Rattle.astg_read.specs.Nodes.{is_node, is_unknown, is_signal}
 use Rattle.astg_read.specs.Targets.{node_words, targets_of}
 use Rattle.astg_read.specs.Graphs.{pairs_on}
 use Rattle.astg_read.specs.Known.{Known}
-use Rattle.astg_read.specs.Rules.{first_broken, line_rules, outside_rules, breaks_marking, breaks_directive}
+use Rattle.astg_read.specs.Rules.{first_broken, outside_rules, breaks_marking}
 use Rattle.astg_read.specs.Steps.{after_row}
 use Rattle.astg_read.specs.Taking.{line_fault, directive, verdict}
-use Rattle.astg_read.specs.GraphRules.{graph_fault, pair_fault, or_later}
+use Rattle.astg_read.specs.GraphRules.{name_fault, pair_fault}
 
-or_false : (b : Bool) → (b || false) ≡ b
-or_false true = refl
-or_false false = refl
+-- the first of two, where there is one
+abbrev pub or_later : Option Rule → Option Rule → Option Rule
+or_later None later = later
+or_later (Some rule) later = Some rule
+
+-- the rule that a graph line breaks first
+abbrev pub graph_fault : ℕ → Known → Row → Option Rule
+graph_fault most k row =
+    cond (not k.has_graph || is_some k.marking) (Some OutOfOrder)
+    (or_later (name_fault k.declared (node_words row)) (pair_fault most k.pairs (pairs_on k.declared row) (targets_of row)))
 
 -- a test that fails, and one that holds
 pub past : {A : Type 0} (b : Bool) (x y : A) → b ≡ false → cond b x y ≡ y
@@ -42,24 +50,17 @@ three a r b s c t = cond a (Some r) (cond b (Some s) (cond c (Some t) None))
 -- a line of declarations
 pub fault-names : (most : ℕ) (k : Known) (kind : Kind) (names : Row) → line_fault most k (directive kind ∷ names)
     ≡ three k.has_graph OutOfOrder (not (list_all is_name names)) BadName (stands_again same_name k.declared.signals (signals_of kind names)) DeclaredTwice
-fault-names most k Input names = (λ j. three (or_false k.has_graph j) OutOfOrder ((or_false (not (list_all is_name names) || false) ∙ or_false (not (list_all is_name names))) j) BadName (stands_again same_name k.declared.signals (signals_of Input names)) DeclaredTwice)
-fault-names most k Output names = (λ j. three (or_false k.has_graph j) OutOfOrder ((or_false (not (list_all is_name names) || false) ∙ or_false (not (list_all is_name names))) j) BadName (stands_again same_name k.declared.signals (signals_of Output names)) DeclaredTwice)
-fault-names most k Internal names = (λ j. three (or_false k.has_graph j) OutOfOrder ((or_false (not (list_all is_name names) || false) ∙ or_false (not (list_all is_name names))) j) BadName (stands_again same_name k.declared.signals (signals_of Internal names)) DeclaredTwice)
-
-pub fault-dummies : (most : ℕ) (k : Known) (names : Row) → line_fault most k (codes ".dummy" ∷ names)
-    ≡ three k.has_graph OutOfOrder (not (list_all is_name names)) BadName (stands_again same_name k.declared.signals (signals_of Internal names)) DeclaredTwice
-fault-dummies most k names = (λ j. three (or_false k.has_graph j) OutOfOrder ((or_false (not (list_all is_name names) || false) ∙ or_false (not (list_all is_name names))) j) BadName (stands_again same_name k.declared.signals (signals_of Internal names)) DeclaredTwice)
+fault-names most k Input names = (λ j. three (or-false k.has_graph j) OutOfOrder ((or-false (not (list_all is_name names) || false) ∙ or-false (not (list_all is_name names))) j) BadName (stands_again same_name k.declared.signals (signals_of Input names)) DeclaredTwice)
+fault-names most k Output names = (λ j. three (or-false k.has_graph j) OutOfOrder ((or-false (not (list_all is_name names) || false) ∙ or-false (not (list_all is_name names))) j) BadName (stands_again same_name k.declared.signals (signals_of Output names)) DeclaredTwice)
+fault-names most k Internal names = (λ j. three (or-false k.has_graph j) OutOfOrder ((or-false (not (list_all is_name names) || false) ∙ or-false (not (list_all is_name names))) j) BadName (stands_again same_name k.declared.signals (signals_of Internal names)) DeclaredTwice)
 
 -- a title
 pub fault-model : (most : ℕ) (k : Known) (words : Row) → line_fault most k (codes ".model" ∷ words) ≡ cond k.has_graph (Some OutOfOrder) None
-fault-model most k words = (λ j. cond (or_false k.has_graph j) (Some OutOfOrder) None)
-
-pub fault-name : (most : ℕ) (k : Known) (words : Row) → line_fault most k (codes ".name" ∷ words) ≡ cond k.has_graph (Some OutOfOrder) None
-fault-name most k words = (λ j. cond (or_false k.has_graph j) (Some OutOfOrder) None)
+fault-model most k words = (λ j. cond (or-false k.has_graph j) (Some OutOfOrder) None)
 
 -- .graph
 pub fault-graph : (most : ℕ) (k : Known) (words : Row) → line_fault most k (codes ".graph" ∷ words) ≡ two k.has_graph OutOfOrder (nat_lt 0 (length words)) BadName
-fault-graph most k words = (λ j. two (or_false k.has_graph j) OutOfOrder (or_false (nat_lt 0 (length words)) j) BadName)
+fault-graph most k words = (λ j. two (or-false k.has_graph j) OutOfOrder (or-false (nat_lt 0 (length words)) j) BadName)
 
 -- .end
 pub fault-end : (most : ℕ) (k : Known) (words : Row) → line_fault most k (codes ".end" ∷ words) ≡ cond (not k.has_graph) (Some NoGraph) None
@@ -68,14 +69,6 @@ fault-end most k words = refl
 -- .marking
 pub fault-marking : (most : ℕ) (k : Known) (words : Row) → line_fault most k (codes ".marking" ∷ words) ≡ two (not k.has_graph || is_some k.marking) OutOfOrder (breaks_marking most k (codes ".marking" ∷ words)) BadMarking
 fault-marking most k words = refl
-
--- a line without words
-pub fault-empty : (most : ℕ) (k : Known) → line_fault most k [] ≡ None
-fault-empty most k = refl
-
--- an unknown directive
-pub fault-unknown : (most : ℕ) (k : Known) (row : Row) → breaks_directive row ≡ true → line_fault most k row ≡ Some UnknownDirective
-fault-unknown most k row u = stop (breaks_directive row) (Some UnknownDirective) (first_broken (drop 1 (line_rules most k row))) u
 
 -- three tests and what comes after them
 or_later-three : (a b c : Bool) (r s t : Rule) (later : Option Rule) → cond a (Some r) (cond b (Some s) (cond c (Some t) later)) ≡ or_later (three a r b s c t) later

@@ -1,15 +1,14 @@
 -- The rules of a graph line, one after the other.
-use Rattle.std.specs.Prelude.{ℕ, List, not, ◌||◌, Option, None, Some, is_some, if◌then◌else◌}
+use Rattle.std.specs.Prelude.{ℕ, List, not, ◌||◌, Option, None, Some, if◌then◌else◌}
 use Rattle.std.specs.List.{list_all, list_any}
 use Rattle.astg_read.specs.declared.rule.Rule.{Rule}
-use Rattle.astg_read.specs.declared.rule.Rule.TheVariants.{OutOfOrder, BadName, UnknownSignal, NoEdge, BadArc, RepeatedArc, BadWeight}
+use Rattle.astg_read.specs.declared.rule.Rule.TheVariants.{BadName, UnknownSignal, NoEdge, BadArc, RepeatedArc, BadWeight}
 use Rattle.astg_read.specs.Lists.{stands_again}
 use Rattle.astg_read.specs.Rows.{Row}
 use Rattle.astg_read.specs.Header.{Declared}
 use Rattle.astg_read.specs.Nodes.{is_node, is_unknown, is_signal}
-use Rattle.astg_read.specs.Targets.{Target, targets_of, node_words, is_good_group}
-use Rattle.astg_read.specs.Graphs.{Pair, pairs_on, same_pair, joins_places, weighs_trans}
-use Rattle.astg_read.specs.Known.{Known}
+use Rattle.astg_read.specs.Targets.{Target, is_good_group}
+use Rattle.astg_read.specs.Graphs.{Pair, same_pair, joins_places, weighs_trans}
 
 -- the rule that the words of a source and its targets break first
 abbrev pub name_fault : Declared → Row → Option Rule
@@ -19,11 +18,6 @@ name_fault d words =
     else if list_any (is_signal d) words then Some NoEdge
     else None
 
--- the first of two, where there is one
-abbrev pub or_later : Option Rule → Option Rule → Option Rule
-or_later None later = later
-or_later (Some rule) later = Some rule
-
 -- the rule that new pairs and their targets break first, after these pairs
 abbrev pub pair_fault : ℕ → List Pair → List Pair → List Target → Option Rule
 pair_fault most old new targets =
@@ -31,9 +25,3 @@ pair_fault most old new targets =
     else if stands_again same_pair old new then Some RepeatedArc
     else if not (list_all (is_good_group most) targets) || list_any weighs_trans new then Some BadWeight
     else None
-
--- the rule that a graph line breaks first
-abbrev pub graph_fault : ℕ → Known → Row → Option Rule
-graph_fault most k row =
-    if not k.has_graph || is_some k.marking then Some OutOfOrder
-    else or_later (name_fault k.declared (node_words row)) (pair_fault most k.pairs (pairs_on k.declared row) (targets_of row))

@@ -2,7 +2,7 @@
 
 ghost use Rattle.std.specs.Prelude.{◌≡◌, ◌≤◌, ◌<◌, ◌^◌, ◌+◌, [], zero, length, option_map, IfOk};
 ghost use Rattle.astg_read.specs.Header.{without_dummies};
-ghost use Rattle.astg_read.specs.Markings.{further_words, entries_after};
+ghost use Rattle.astg_read.specs.Markings.{entries_after};
 ghost use Rattle.astg_read.specs.Markings as markings;
 ghost use Rattle.astg_read.specs.Shown.{shown_entry, shown_entries, shown_place, shown_words};
 

@@ -1,14 +1,14 @@
 //! The specification of what the lines say.
 
-ghost use Rattle.std.specs.Prelude.{◌≡◌, ◌≢◌, ◌++◌, ◌<◌, ◌≤◌, ◌^◌, [], length, map, true, false, All, IfOk, OnOk};
-ghost use Rattle.std.specs.List.{list_all, list_any};
+ghost use Rattle.std.specs.Prelude.{◌≡◌, ◌<◌, ◌≤◌, ◌^◌, [], length, map, true, false, All, IfOk, OnOk};
+ghost use Rattle.std.specs.List.{list_all};
 ghost use Rattle.stg_net.specs.declared.trans.TransName.{TransName};
 ghost use Rattle.stg_net.specs.Building.{HasEnds, with_arc};
 ghost use Rattle.astg_read.specs.Built.{AreLimits, IsBuilt, IsReady, AreReady, known_by, with_all_trans, with_all_tokens, with_all_arcs};
 ghost use Rattle.astg_read.specs.Graphs.{PlaceAt};
 ghost use Rattle.astg_read.specs.Graphs as graphs;
 ghost use Rattle.astg_read.specs.Marks as marked;
-ghost use Rattle.astg_read.specs.Header.{same_name, without_dummies};
+ghost use Rattle.astg_read.specs.Header.{without_dummies};
 ghost use Rattle.astg_read.specs.Lists.{stands_again};
 ghost use Rattle.astg_read.specs.Nodes as nodes;
 ghost use Rattle.astg_read.specs.Reading as readings;

@@ -1,6 +1,6 @@
 //! The graph that the lines have built so far, its nodes and pairs found by hash.
 
-ghost use Rattle.std.specs.Prelude.{◌≡◌, ◌++◌, ◌∷◌, [], ◌<◌, ◌≤◌, not, length, map, min, IfOk, OnOk, IsTrue, ◌-◌, ◌^◌};
+ghost use Rattle.std.specs.Prelude.{◌≡◌, ◌∷◌, [], ◌<◌, not, length, map, min, IfOk, OnOk, IsTrue, ◌-◌};
 ghost use Rattle.std.specs.List.{list_any};
 ghost use Rattle.astg_read.specs.Graphs.{same_pair, same_place, arcs};
 ghost use Rattle.astg_read.specs.Graphs as graphs;

@@ -1,6 +1,6 @@
 //! What the lines say, line by line.
 
-ghost use Rattle.std.specs.Prelude.{◌≡◌, ◌++◌, ◌∷◌, [], ◌<◌, ◌≤◌, ◌^◌, not, length, codes, true, false, None, drop, nat_lt, IfOk, OnOk, IsTrue, ◌⊎◌};
+ghost use Rattle.std.specs.Prelude.{◌≡◌, ◌++◌, ◌∷◌, [], ◌<◌, ◌^◌, not, length, codes, true, false, None, drop, nat_lt, IfOk, OnOk, IsTrue, ◌⊎◌};
 ghost use Rattle.std.specs.List.{list_all, list_any};
 ghost use Rattle.stg_net.specs.Names as forms;
 ghost use Rattle.astg_read.specs.Header.{same_name, signals_of, without_dummies};

@@ -7,24 +7,43 @@ ghost use Rattle.astg_read.specs.Refusals.{rule_text};
 use std::fmt;
 use stg_net::NoMemory;
 
-/// The rule that a text breaks.
+/// The rule that a text breaks, numbered in the order of docs/FORMATS.md.
 #[derive(Clone, Copy, Debug, PartialEq, Eq)]
 pub enum Rule {
+    /// A byte outside a comment that may not stand there.
     BadByte = 1,
+    /// Outside a marking, a first word that begins with `.` and is no directive.
     UnknownDirective = 2,
+    /// A header line or `.graph` after `.graph`, or a graph line or `.marking` before `.graph` or after
+    /// the marking.
     OutOfOrder = 3,
+    /// A declared word that is no name, a word after `.graph`, or a source or target that is no node.
     BadName = 4,
+    /// A name that was declared before.
     DeclaredTwice = 5,
+    /// A transition, as a source or target, whose signal isn't declared.
     UnknownSignal = 6,
+    /// A source or target that is the name of a signal.
     NoEdge = 7,
+    /// A source and a target that are both places.
     BadArc = 8,
+    /// A source and a target that stood together before.
     RepeatedArc = 9,
+    /// A weight group of another form, at another place or between two transitions, or a weight that
+    /// isn't from 1 to the limit.
     BadWeight = 10,
+    /// A word that goes on no marking, a place that isn't there or was named before, or tokens above
+    /// the limit.
     BadMarking = 11,
+    /// `.end` before `.graph`, or a text that ends with neither.
     NoGraph = 12,
+    /// A text that ends after `.graph` without `.end`.
     NoEnd = 13,
+    /// A signal, transition, place or arc past its limit.
     TooMany = 14,
+    /// `.dummy` with at least one name.
     HasDummy = 15,
+    /// More bytes than the limit.
     TooLong = 16,
 }
 
@@ -53,9 +72,11 @@ impl fmt::Display for Rule {
     }
 }
 
-/// Why a text isn't read. Where it has more bytes than the limit the line is 0.
+/// Why a text isn't read.
 #[derive(Clone, Copy, Debug, PartialEq, Eq)]
 pub enum ReadError {
+    /// The first bad line, from 1, and the first rule that it breaks. Where the text ends too early
+    /// the line is 1 plus the number of its LF bytes; with `TooLong` it is 0.
     Refused { rule: Rule, line: u32 },
     NoMemory,
 }

@@ -1,6 +1,6 @@
 //! The entries of a marking that later words don't change.
 
-ghost use Rattle.std.specs.Prelude.{◌≡◌, ◌≤◌, ◌<◌, ◌^◌, ◌||◌, not, [], zero, length, map, true, false, IfOk, OnOk};
+ghost use Rattle.std.specs.Prelude.{◌≡◌, ◌<◌, ◌^◌, ◌||◌, not, [], zero, length, map, true, false, IfOk, OnOk};
 ghost use Rattle.astg_read.specs.Header.{without_dummies};
 ghost use Rattle.astg_read.specs.Markings.{entries_after};
 ghost use Rattle.astg_read.specs.Markings as markings;

@@ -1,6 +1,6 @@
 //! The declared signals, found by name.
 
-ghost use Rattle.std.specs.Prelude.{◌≡◌, ◌<◌, ◌≤◌, ◌^◌, [], not, false, length, IfOk, OnOk, IfSome, Some};
+ghost use Rattle.std.specs.Prelude.{◌≡◌, ◌<◌, ◌^◌, [], not, false, length, IfOk, OnOk, IfSome, Some};
 ghost use Rattle.std.specs.List.{list_any};
 ghost use Rattle.stg_net.specs.Net.{number_of};
 ghost use Rattle.astg_read.specs.Built.{with_all_signals};
