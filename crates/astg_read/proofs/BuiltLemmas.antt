@@ -78,13 +78,19 @@ spec-from l most ss g f n names a s w b = record {
 at-most : (n m : ℕ) → nat_lt n m ≡ false → m ≤ n
 at-most n m h = elim (cases_lt n m) [ inl a ↦ absurd (true≢false (sym (lt-ltb n m a) ∙ h)) | inr b ↦ b ]
 
--- the counts fit
-pub counts-fit : (l : Limits) (ss : List Signal) (g : GraphLists) → AreLimits l → has_too_many l (known_by ss g) ≡ false → (length g.trans < 4294967296) × (length g.places < 4294967296)
-counts-fit l ss g a h =
+-- the counts are within the limits
+pub counts-within : (l : Limits) (ss : List Signal) (g : GraphLists) → has_too_many l (known_by ss g) ≡ false
+    → (length g.trans ≤ l.trans) × (length g.places ≤ l.places) × (length (arcs_in (known_by ss g)) ≤ l.arcs)
+counts-within l ss g h =
     let x = or_parts (nat_lt l.signals (length ss) || nat_lt l.trans (length g.trans) || nat_lt l.places (length g.places)) (nat_lt l.arcs (length (arcs_in (known_by ss g)))) h in
     let y = or_parts (nat_lt l.signals (length ss) || nat_lt l.trans (length g.trans)) (nat_lt l.places (length g.places)) x.0 in
     let z = or_parts (nat_lt l.signals (length ss)) (nat_lt l.trans (length g.trans)) y.0 in
-    (omega (arith, at-most l.trans (length g.trans) z.1, a.trans), omega (arith, at-most l.places (length g.places) y.1, a.places))
+    (at-most l.trans (length g.trans) z.1, at-most l.places (length g.places) y.1, at-most l.arcs (length (arcs_in (known_by ss g))) x.1)
+
+-- and fit
+pub counts-fit : (l : Limits) (ss : List Signal) (g : GraphLists) → AreLimits l → has_too_many l (known_by ss g) ≡ false → (length g.trans < 4294967296) × (length g.places < 4294967296)
+counts-fit l ss g a h =
+    let w = counts-within l ss g h in (omega (arith, w.0, a.trans), omega (arith, w.1, a.places))
 
 -- a net with the signals, transitions and places is ready for the arcs
 pub ready-from : (l : Limits) (ss : List Signal) (g : GraphLists) (b : Building) (ts : List TransName) (ps : List PlaceAt) (qs : List Pair) → ts ≡ g.trans → ps ≡ g.places → qs ≡ g.pairs
@@ -103,5 +109,6 @@ ready-from l ss g b ts ps qs t p q limits trans tokens none a s h =
       there = s.pairs_there;
       weighed = ap (λ (x : Limits). list_all (is_weighed x.weight) g.pairs) limits ∙ s.weighed;
       fresh = s.pairs_differ;
+      room = omega (arith, ap length none, ap (λ (x : Limits). x.arcs) limits, (counts-within l ss g h).2);
     } in
     subst (λ x. AreReady b x ps qs) (sym t) (subst (λ x. AreReady b g.trans x qs) (sym p) (subst (λ x. AreReady b g.trans g.places x) (sym q) base))

@@ -1,12 +1,12 @@
 -- The arcs of one more pair.
-use Rattle.std.proofs.Common.{◌≡◌, ℕ, List, [], ◌∷◌, ◌++◌, map, Option, sym, ap, subst, ◌∙◌, append_assoc, append-nil}
+use Rattle.std.proofs.Common.{◌≡◌, ℕ, List, [], ◌∷◌, ◌++◌, map, length-append, arith, Option, sym, ap, subst, ◌∙◌, append_assoc, append-nil}
 use Rattle.std.proofs.lemmas.Bool.{or_parts, and_parts}
 use Rattle.std.proofs.lemmas.List.Concat.{flat_map-append}
 use Rattle.std.specs.List.{list_any, list_all}
 use Rattle.stg_net.specs.declared.trans.TransName.{TransName}
 use Rattle.stg_net.specs.Building.{Building}
 use Rattle.astg_read.specs.declared.graph.Ends.{Ends}
-use Rattle.astg_read.specs.Built.{AreReady, with_all_arcs}
+use Rattle.astg_read.specs.Built.{AreReady, IsReady, with_all_arcs}
 use Rattle.astg_read.specs.Graphs.{Pair, PlaceAt, same_pair, arcs, arcs_of}
 use Rattle.astg_read.specs.Lists.{stands_again}
 use Rattle.astg_read.specs.Shown.{shown_weighed}
@@ -31,12 +31,38 @@ module _ (b : Building) (ts : List TransName) (ps : List PlaceAt) (p : Pair) (re
         there = r.there.1;
         weighed = w.1;
         fresh = f.1;
+        room = omega (arith, r.room, length-append (arcs_of ts ps p) (arcs ts ps rest), length-append b.lists.arcs (arcs_of ts ps p));
+      }
+
+  -- the first one is ready
+  ready-first : AreReady b ts ps (p ∷ rest) → IsReady b ts ps p
+  ready-first r =
+      let w = and_parts (is_weighed b.limits.weight p) (list_all (is_weighed b.limits.weight) rest) r.weighed in
+      let f = or_parts (list_any (same_pair p) r.done) (stands_again same_pair (r.done ++ p ∷ []) rest) r.fresh in
+      record {
+        trans_are = r.trans_are;
+        places_are = r.places_are;
+        trans_fit = r.trans_fit;
+        places_fit = r.places_fit;
+        least = r.least;
+        done = r.done;
+        arcs_are = r.arcs_are;
+        done_there = r.done_there;
+        there = r.there.0;
+        weighed = w.0;
+        fresh = f.0;
+        room = omega (arith, r.room, length-append (arcs_of ts ps p) (arcs ts ps rest));
       }
 
   arcs-after : with_all_arcs (with_all_arcs b (arcs_of ts ps p)) (arcs ts ps rest) ≡ with_all_arcs b (arcs ts ps (p ∷ rest))
   arcs-after = ap (λ xs. record b { lists = record (b.lists) { arcs = xs } }) (append_assoc b.lists.arcs (arcs_of ts ps p) (arcs ts ps rest))
 
--- the next of the entries
+-- the next of the entries is ready
+pub next-first : (b : Building) (ts : List TransName) (ps : List PlaceAt) (e : Ends) (w : Option ℕ) (rest all : List (Ends × Option ℕ)) → all ≡ (e, w) ∷ rest
+    → AreReady b ts ps (map shown_weighed all) → IsReady b ts ps (shown_weighed (e, w))
+next-first b ts ps e w rest all same r = ready-first b ts ps (shown_weighed (e, w)) (map shown_weighed rest) (subst (λ es. AreReady b ts ps (map shown_weighed es)) same r)
+
+-- and so are those after it
 pub next-ready : (b new : Building) (ts : List TransName) (ps : List PlaceAt) (e : Ends) (w : Option ℕ) (rest all : List (Ends × Option ℕ)) → all ≡ (e, w) ∷ rest
     → new ≡ with_all_arcs b (arcs_of ts ps (shown_weighed (e, w))) → AreReady b ts ps (map shown_weighed all) → AreReady new ts ps (map shown_weighed rest)
 next-ready b new ts ps e w rest all same grown r =

@@ -1,5 +1,5 @@
 -- A net under construction, as the reader adds to it.
-use Rattle.std.specs.Prelude.{◌≡◌, ℕ, ◌<◌, ◌≤◌, ◌^◌, List, ◌++◌, true, false, None, map, length}
+use Rattle.std.specs.Prelude.{◌≡◌, ℕ, ◌+◌, ◌<◌, ◌≤◌, ◌^◌, List, ◌++◌, true, false, None, map, length}
 use Rattle.std.specs.List.Sorted.{IsPermutation}
 use Rattle.stg_net.specs.declared.limits.Limits.{Limits}
 use Rattle.stg_net.specs.declared.limits.TheConstants.Limits.{PART}
@@ -14,7 +14,7 @@ use Rattle.stg_net.specs.declared.trans.TransName.{TransName}
 use Rattle.stg_net.specs.declared.arc.NetArc.{NetArc}
 use Rattle.stg_net.specs.Building.{Building}
 use Rattle.astg_read.specs.Lists.{stands_again}
-use Rattle.astg_read.specs.Graphs.{Pair, PlaceAt, arcs, same_pair}
+use Rattle.astg_read.specs.Graphs.{Pair, PlaceAt, arcs, arcs_of, same_pair}
 use Rattle.astg_read.specs.Sound.{IsPairIn, ArePairsIn, is_weighed}
 
 -- the net under construction with these signals
@@ -33,7 +33,7 @@ with_all_tokens b tokens = record b { lists = record (b.lists) { tokens = b.list
 abbrev pub with_all_arcs : Building → List NetArc → Building
 with_all_arcs b arcs = record b { lists = record (b.lists) { arcs = b.lists.arcs ++ arcs } }
 
--- The net under construction has these transitions and places and the arcs of some pairs, and the next pair is a new one whose nodes are there.
+-- The net under construction has these transitions and places and the arcs of some pairs, and room for those of the next pair, which is a new one whose nodes are there.
 pub record IsReady (b : Building) (trans : List TransName) (all : List PlaceAt) (p : Pair) : Type 0 where
   pub trans_are : length trans ≡ length b.lists.trans
   pub places_are : length all ≡ length b.lists.tokens
@@ -46,8 +46,9 @@ pub record IsReady (b : Building) (trans : List TransName) (all : List PlaceAt) 
   pub there : IsPairIn trans all p
   pub weighed : is_weighed b.limits.weight p ≡ true
   pub fresh : list_any (same_pair p) done ≡ false
+  pub room : length b.lists.arcs + length (arcs_of trans all p) ≤ b.limits.arcs
 
--- The net under construction has these transitions and places and the arcs of some pairs, and these are new ones whose nodes are there.
+-- The net under construction has these transitions and places and the arcs of some pairs, and room for those of these, which are new ones whose nodes are there.
 pub record AreReady (b : Building) (trans : List TransName) (all : List PlaceAt) (ps : List Pair) : Type 0 where
   pub trans_are : length trans ≡ length b.lists.trans
   pub places_are : length all ≡ length b.lists.tokens
@@ -60,6 +61,7 @@ pub record AreReady (b : Building) (trans : List TransName) (all : List PlaceAt)
   pub there : ArePairsIn trans all ps
   pub weighed : list_all (is_weighed b.limits.weight) ps ≡ true
   pub fresh : stands_again same_pair done ps ≡ false
+  pub room : length b.lists.arcs + length (arcs trans all ps) ≤ b.limits.arcs
 
 -- each limit is at most that of a component, and weights may be 1
 pub record AreLimits (l : Limits) : Type 0 where

@@ -1,6 +1,6 @@
 //! The specification of what the lines say.
 
-ghost use Rattle.std.specs.Prelude.{◌≡◌, ◌<◌, ◌≤◌, ◌^◌, [], length, map, true, false, All, IfOk, OnOk};
+ghost use Rattle.std.specs.Prelude.{◌≡◌, ◌+◌, ◌<◌, ◌≤◌, ◌^◌, [], length, map, true, false, All, IfOk, OnOk};
 ghost use Rattle.std.specs.List.{list_all};
 ghost use Rattle.stg_net.specs.declared.trans.TransName.{TransName};
 ghost use Rattle.stg_net.specs.Building.{HasEnds, with_arc};
@@ -22,7 +22,7 @@ use crate::marking::Marking;
 use crate::marks::{Mark, tokens_at};
 use crate::nodes::Node;
 use crate::reader::Reader;
-use crate::signals::Signals;
+use crate::signals::{Signals, only_memory};
 use indexmap::{IndexMap, IndexSet};
 use std::alloc::Global;
 use stg_net::{Limits, NetArc, NetBuilder, NoMemory, PlaceName, Seq, Spec, TransName};
@@ -49,16 +49,18 @@ fn place_number(places: &IndexSet<Place<'_>>, place: &Place<'_>) -> u32
     }
 }
 
-/// Adds transitions that differ. They are within the limit, so nothing fails but for want of memory.
+/// Adds transitions that differ.
 fn add_trans(builder: &mut NetBuilder, trans: &[TransName]) -> Result<(), NoMemory>
     requires there { list_all (is_trans_in (length builder.old.lists.signals)) trans.now ≡ true }
     requires differ { stands_again nodes.same_trans [] trans.now ≡ false }
     requires none { builder.old.lists.trans ≡ [] }
+    requires room { length builder.old.lists.trans + length trans.now ≤ builder.old.limits.trans }
     ensures { OnOk result (builder.new ≡ with_all_trans builder.old trans.now) }
 {
     for name in trans {
-        if builder.add_trans(*name).is_err() {
-            return Err(NoMemory);
+        match builder.add_trans(*name) {
+            Ok(_) => {}
+            Err(error) => return Err(only_memory(error)),
         }
     }
     Ok(())
@@ -70,26 +72,29 @@ fn add_arc(builder: &mut NetBuilder, arc: NetArc) -> Result<(), NoMemory>
     requires least { 1 ≤ arc.weight }
     requires most { arc.weight ≤ builder.old.limits.weight }
     requires fresh { All (λ a. HasEnds arc a → ⊥) builder.old.lists.arcs }
+    requires room { length builder.old.lists.arcs < builder.old.limits.arcs }
     ensures { OnOk result (builder.new ≡ with_arc builder.old arc) }
 {
     match builder.add_arc(arc) {
         Ok(()) => Ok(()),
-        Err(_) => Err(NoMemory),
+        Err(error) => Err(only_memory(error)),
     }
 }
 
-/// Adds places with their tokens. They are within the limit, so nothing fails but for want of memory.
+/// Adds places with their tokens.
 fn add_places(
     builder: &mut NetBuilder,
     marks: &[Mark<'_>],
     places: &[Place<'_>],
 ) -> Result<(), NoMemory>
-    requires { (p : PlaceAt) → marked.tokens_at (shown_marks marks.now) p ≤ builder.old.limits.weight }
+    requires most { (p : PlaceAt) → marked.tokens_at (shown_marks marks.now) p ≤ builder.old.limits.weight }
+    requires room { length builder.old.lists.tokens + length places.now ≤ builder.old.limits.places }
     ensures { OnOk result (builder.new ≡ with_all_tokens builder.old (map (marked.tokens_at (shown_marks marks.now)) (map shown_place places.now))) }
 {
     for place in places {
-        if builder.add_place(tokens_at(marks, place)).is_err() {
-            return Err(NoMemory);
+        match builder.add_place(tokens_at(marks, place)) {
+            Ok(_) => {}
+            Err(error) => return Err(only_memory(error)),
         }
     }
     Ok(())
@@ -242,8 +247,7 @@ fn place_names(
     Ok(names)
 }
 
-/// The specification of signals, a graph, and marks on its places. What is added is within the
-/// limits, so nothing fails but for want of memory.
+/// The specification of signals, a graph, and marks on its places.
 pub fn build<'a>(
     alloc: Global,
     limits: &Limits,

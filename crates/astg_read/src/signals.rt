@@ -1,7 +1,8 @@
 //! The declared signals, found by name.
 
-ghost use Rattle.std.specs.Prelude.{◌≡◌, ◌<◌, ◌^◌, [], not, false, length, IfOk, OnOk, IfSome, Some};
+ghost use Rattle.std.specs.Prelude.{◌≡◌, ◌+◌, ◌<◌, ◌≤◌, ◌^◌, [], not, false, length, IfOk, OnOk, IfSome, Some};
 ghost use Rattle.std.specs.List.{list_any};
+ghost use Rattle.stg_net.specs.declared.builder.BuildError.TheVariants.{NoMemory as want};
 ghost use Rattle.stg_net.specs.Net.{number_of};
 ghost use Rattle.astg_read.specs.Built.{with_all_signals};
 ghost use Rattle.astg_read.specs.Header.{same_name};
@@ -10,7 +11,7 @@ ghost use Rattle.astg_read.specs.Lists.{added, stands_again};
 use indexmap::IndexMap;
 use std::alloc::Global;
 use std::marker::Model;
-use stg_net::{Kind, NetBuilder, NoMemory};
+use stg_net::{BuildError, Kind, NetBuilder, NoMemory};
 
 /// The signals in order of declaration. Contracts see them as a list.
 #[derive(Drop)]
@@ -71,19 +72,30 @@ impl<'a> Signals<'a> {
         }
     }
 
-    /// Adds the signals to a net without any, where their names differ. They are within the limit, so
-    /// nothing fails but for want of memory.
+    /// Adds the signals to a net without any, where their names differ.
     pub fn add_to(self, builder: &mut NetBuilder) -> Result<(), NoMemory>
         requires differ { stands_again same_name [] self ≡ false }
         requires none { builder.old.lists.signals ≡ [] }
+        requires room { length builder.old.lists.signals + length self ≤ builder.old.limits.signals }
         ensures { OnOk result (builder.new ≡ with_all_signals builder.old self.entry) }
     {
         let Signals { kinds } = self;
         for (name, kind) in kinds {
-            if builder.add_signal(name, kind).is_err() {
-                return Err(NoMemory);
+            match builder.add_signal(name, kind) {
+                Ok(_) => {}
+                Err(error) => return Err(only_memory(error)),
             }
         }
         Ok(())
+    }
+}
+
+/// What is left of an error where the net has room: memory ran out.
+pub fn only_memory(error: BuildError) -> NoMemory
+    requires { error ≡ want }
+{
+    match error {
+        BuildError::NoMemory => NoMemory,
+        _ => unreachable!(),
     }
 }

@@ -1,4 +1,4 @@
-use Rattle.std.proofs.Common.{◌≤◌, map, refl, sym, subst, unwrap_or, true, ℕ}
+use Rattle.std.proofs.Common.{arith, ◌≤◌, map, refl, sym, subst, unwrap_or, true, ℕ}
 use Rattle.stg_net.specs.declared.arc.NetArc.{NetArc}
 use Rattle.astg_read.specs.Graphs.{Pair, Named}
 use Rattle.astg_read.specs.Nodes.{Trans, Place}
@@ -21,4 +21,4 @@ add_arc-requires c =
     let p : Pair = record { source = Trans c.args.from; target = Place c.args.to.now; weight = c.args.weight } in
     let m = meets c.args.builder.now ts ps p c.requires a f in
     let w = weight-fits c.args.builder.now ts ps p c.requires in
-    record { place = m.place; trans = m.trans; least = subst (λ (x : ℕ). 1 ≤ x) (sym c.unwrap_or.ensures) w.0; most = subst (λ (x : ℕ). x ≤ c.args.builder.now.limits.weight) (sym c.unwrap_or.ensures) w.1; fresh = m.fresh }
+    record { place = m.place; trans = m.trans; least = subst (λ (x : ℕ). 1 ≤ x) (sym c.unwrap_or.ensures) w.0; most = subst (λ (x : ℕ). x ≤ c.args.builder.now.limits.weight) (sym c.unwrap_or.ensures) w.1; fresh = m.fresh; room = omega (arith, c.requires.room) }

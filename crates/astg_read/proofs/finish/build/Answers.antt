@@ -1,4 +1,4 @@
-use Rattle.std.proofs.Common.{◌≡◌, ◌∙◌, ◌++◌, ◌<◌, length, map, ap, sym, subst, List}
+use Rattle.std.proofs.Common.{◌≡◌, ◌∙◌, ◌++◌, ◌<◌, arith, length, map, ap, sym, subst, List}
 use Rattle.std.proofs.lemmas.List.{length-map}
 use Rattle.stg_net.specs.declared.trans.TransName.{TransName}
 use Rattle.std.specs.List.Sorted.{IsPermutation}
@@ -11,12 +11,36 @@ use Rattle.astg_read.specs.Marks.{tokens_at}
 use Rattle.astg_read.specs.Reading.{place_name}
 use Rattle.stg_net.specs.Spec.{SpecLists}
 use Rattle.astg_read.specs.Shown.{shown_marks, shown_place, shown_weighed}
-use Rattle.astg_read.proofs.BuiltLemmas.{spec-from, counts-fit, ready-from}
+use Rattle.astg_read.proofs.BuiltLemmas.{spec-from, counts-within, counts-fit, ready-from}
 use Rattle.astg_read.proofs.finish.build.Goals as goal
 
 pub place_names-requires : goal.place_names-requires
 place_names-requires c =
     subst (λ (xs : List TransName). length xs < 4294967296) (sym c.into_parts-trans.ensures.trans) (counts-fit c.args.limits.now c.args.signals c.args.graph c.requires.limits c.requires.kept.counts).0
+
+pub add_trans-requires-clause-room : goal.add_trans-requires-clause-room
+add_trans-requires-clause-room c =
+    let b0 = c.new-builder.ensures in let b1 = c.in_ok-add_to.ensures in
+    omega (
+      arith,
+      ap (λ (x : Building). length x.lists.trans) b1 ∙ ap (λ (x : Building). length x.lists.trans) b0,
+      ap (λ (x : Building). x.limits.trans) b1 ∙ ap (λ (x : Building). x.limits.trans) b0,
+      ap length (c.as_slice-2.ensures.keys ∙ c.into_parts-trans.ensures.trans),
+      (counts-within c.args.limits.now c.args.signals c.args.graph c.requires.kept.counts).0,
+    )
+
+pub add_places-requires-clause-room : goal.add_places-requires-clause-room
+add_places-requires-clause-room c =
+    let b0 = c.new-builder.ensures in let b1 = c.in_ok-add_to.ensures in let b2 = c.in_ok-add_trans.ensures in
+    omega (
+      arith,
+      ap (λ (x : Building). length x.lists.tokens) b2 ∙ ap (λ (x : Building). length x.lists.tokens) b1 ∙ ap (λ (x : Building). length x.lists.tokens) b0,
+      ap (λ (x : Building). x.limits.places) b2 ∙ ap (λ (x : Building). x.limits.places) b1 ∙ ap (λ (x : Building). x.limits.places) b0,
+      ap length c.as_slice-3.ensures.keys,
+      sym (length-map c.into_parts-trans.result.places.keys shown_place),
+      ap length c.into_parts-trans.ensures.places,
+      (counts-within c.args.limits.now c.args.signals c.args.graph c.requires.kept.counts).1,
+    )
 
 pub add_arcs-requires : goal.add_arcs-requires
 add_arcs-requires c =

@@ -1,4 +1,4 @@
-use Rattle.std.proofs.Common.{◌≡◌, false, map}
+use Rattle.std.proofs.Common.{◌≡◌, ◌+◌, ◌≤◌, length, false, map}
 use Rattle.astg_read.specs.Built.{with_all_signals}
 use Rattle.astg_read.specs.Header.{same_name}
 use Rattle.astg_read.specs.Lists.{stands_again}
@@ -8,5 +8,6 @@ use Rattle.astg_read.proofs.signals.Signals.add_to.Given as goal
 abbrev pub invariant-loop-name : goal.invariant-loop-name
 invariant-loop-name l = record {
   differ : stands_again same_name l.builder.lists.signals (map shown_signal l.name-iterator) ≡ false;
+  room : length l.builder.lists.signals + length (map shown_signal l.name-iterator) ≤ l.builder.limits.signals;
   so_far : with_all_signals l.builder (map shown_signal l.name-iterator) ≡ with_all_signals l.initial.builder (map shown_signal l.initial.name-iterator);
 }
