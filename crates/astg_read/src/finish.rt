@@ -25,7 +25,7 @@ use crate::reader::Reader;
 use crate::signals::{Signals, only_memory};
 use indexmap::{IndexMap, IndexSet};
 use std::alloc::Global;
-use stg_net::{Limits, NetArc, NetBuilder, NoMemory, PlaceName, Seq, Spec, TransName};
+use stg_net::{Limits, Net, NetArc, NetBuilder, NoMemory, PlaceName, Seq, Spec, TransName};
 
 /// The number of a transition; 0 where it isn't there.
 fn trans_number(trans: &IndexSet<TransName>, name: TransName) -> u32
@@ -247,6 +247,35 @@ fn place_names(
     Ok(names)
 }
 
+/// The net of signals, a graph, and marks on its places, with the names of the places.
+fn net_of<'a>(
+    alloc: Global,
+    limits: &Limits,
+    signals: Signals<'a>,
+    graph: Graph<'a>,
+    marks: &[Mark<'a>],
+) -> Result<(Net, Seq<PlaceName>), NoMemory>
+    requires limits { AreLimits limits.now }
+    requires kept { IsKept limits.now (known_by signals graph) }
+    requires tokens { (p : PlaceAt) → marked.tokens_at (shown_marks marks.now) p ≤ limits.now.weight }
+    ensures built { IfOk result (λ r. IsBuilt signals.entry graph.entry (map (marked.tokens_at (shown_marks marks.now)) graph.entry.places) (record { net = r.0; place_names = r.1 })) }
+    ensures within { IfOk result (λ r. IsWithin limits.now r.0) }
+{
+    let mut builder = NetBuilder::new(alloc, *limits);
+    signals.add_to(&mut builder)?;
+    let GraphParts {
+        trans,
+        places,
+        weights,
+    } = graph.into_parts();
+    let names = place_names(alloc, &trans, places.as_slice())?;
+    add_trans(&mut builder, trans.as_slice())?;
+    add_places(&mut builder, marks, places.as_slice())?;
+    add_arcs(&mut builder, &trans, &places, weights)?;
+    let net = builder.finish()?;
+    Ok((net, names))
+}
+
 /// The specification of signals, a graph, and marks on its places.
 pub fn build<'a>(
     alloc: Global,
@@ -261,18 +290,7 @@ pub fn build<'a>(
     ensures value { IfOk result (λ s. IsBuilt signals.entry graph.entry (map (marked.tokens_at (shown_marks marks.now)) graph.entry.places) s) }
     ensures within { IfOk result (λ s. IsWithin limits.now s.net) }
 {
-    let mut builder = NetBuilder::new(alloc, *limits);
-    signals.add_to(&mut builder)?;
-    let GraphParts {
-        trans,
-        places,
-        weights,
-    } = graph.into_parts();
-    let names = place_names(alloc, &trans, places.as_slice())?;
-    add_trans(&mut builder, trans.as_slice())?;
-    add_places(&mut builder, marks, places.as_slice())?;
-    add_arcs(&mut builder, &trans, &places, weights)?;
-    let net = builder.finish()?;
+    let (net, names) = net_of(alloc, limits, signals, graph, marks)?;
     Ok(Spec::new(net, names))
 }
 
