@@ -2,6 +2,7 @@
 #![tactic(auto)]
 
 mod entries;
+mod faults;
 mod finish;
 mod graph;
 mod kinds;

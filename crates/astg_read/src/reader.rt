@@ -1,35 +1,30 @@
 //! What the lines say, line by line.
 
-ghost use Rattle.std.specs.Prelude.{◌≡◌, ◌++◌, ◌∷◌, [], ◌<◌, ◌^◌, not, length, codes, true, false, None, drop, nat_lt, IfOk, OnOk, IsTrue, ◌⊎◌};
-ghost use Rattle.std.specs.List.{list_all, list_any};
-ghost use Rattle.stg_net.specs.Names as forms;
-ghost use Rattle.astg_read.specs.Header.{same_name, signals_of, without_dummies};
-ghost use Rattle.astg_read.specs.Graphs.{arcs, same_pair};
-ghost use Rattle.astg_read.specs.Lists.{stands_again};
+ghost use Rattle.std.specs.Prelude.{◌≡◌, ◌++◌, ◌∷◌, [], ◌<◌, ◌^◌, length, codes, true, false, drop, nat_lt, OnOk, ◌⊎◌};
+ghost use Rattle.std.specs.List.{list_any};
+ghost use Rattle.astg_read.specs.Header.{without_dummies};
+ghost use Rattle.astg_read.specs.Graphs.{arcs};
 ghost use Rattle.astg_read.specs.Markings.{before_close, is_bad_marking, is_closing, is_unfinished};
 ghost use Rattle.astg_read.specs.Rows.{begins, begins_with_dot};
 ghost use Rattle.astg_read.specs.Settled.{IsSettled};
-ghost use Rattle.astg_read.specs.Shown.{texts, shown_pairs, shown_targets};
-ghost use Rattle.astg_read.specs.Steps.{with_pairs};
+ghost use Rattle.astg_read.specs.Shown.{texts};
 ghost use Rattle.astg_read.specs.Taking.{Says, Takes, Marks, IsKept, IsSettledIn, nothing, known_of, directive, counted};
-ghost use Rattle.astg_read.specs.Targets.{words_in};
-ghost use Rattle.astg_read.specs.GraphRules as rules;
 ghost use Rattle.astg_read.specs.Rules as line_rules;
 
 use crate::Rule;
+use crate::faults::{add_new_pairs, name_fault};
 use crate::graph::Graph;
 use crate::kinds::{LineKind, kind_of};
 use crate::line_error::LineError;
 use crate::marking::Marking;
-use crate::names::is_name;
-use crate::nodes::{is_node, is_signal, is_unknown, node_of};
-use crate::pairs::{Pair, join_places, pairs_of, weigh_trans};
+use crate::nodes::node_of;
+use crate::pairs::pairs_of;
 use crate::settled::Settled;
-use crate::signals::Signals;
-use crate::targets::{Target, are_nodes, are_weighed, have_signal, have_unknown, targets_of};
+use crate::signals::{Signals, add_names, are_names};
+use crate::targets::targets_of;
 use astg_lex::Word;
 use std::alloc::Global;
-use stg_net::{Kind, Limits, NoMemory};
+use stg_net::{Kind, Limits};
 
 /// What the lines so far say, in a text without dummies.
 #[derive(Drop)]
@@ -40,85 +35,6 @@ pub struct Reader<'a> {
     pub graph: Graph<'a>,
     pub marking: Option<Marking<'a>>,
     pub settled: Settled<'a>,
-}
-
-fn are_names(words: &[Word<'_>]) -> bool
-    ensures { result ≡ list_all forms.is_name (texts words.now) }
-{
-    for word in words {
-        if !is_name(word.text) {
-            return false;
-        }
-    }
-    true
-}
-
-/// Adds signals until a name stands again, and tells whether all are new.
-fn add_names<'a>(
-    signals: &mut Signals<'a>,
-    kind: Kind,
-    names: &[Word<'a>],
-) -> Result<bool, NoMemory>
-    ensures fresh { IfOk result (λ all_new. all_new ≡ not (stands_again same_name signals.old (signals_of kind (texts names.now)))) }
-    ensures ok { IfOk result (λ all_new. IsTrue all_new → signals.new ≡ signals.old ++ signals_of kind (texts names.now)) }
-{
-    for name in names {
-        if !signals.add(name.text, kind)? {
-            return Ok(false);
-        }
-    }
-    Ok(true)
-}
-
-/// Adds pairs until one stands again, and tells whether all are new.
-fn add_pairs<'a>(graph: &mut Graph<'a>, pairs: &[Pair<'a>]) -> Result<bool, NoMemory>
-    ensures fresh { IfOk result (λ all_new. all_new ≡ not (stands_again same_pair graph.old.pairs (shown_pairs pairs.now))) }
-    ensures ok { IfOk result (λ all_new. IsTrue all_new → graph.new ≡ with_pairs graph.old (shown_pairs pairs.now)) }
-{
-    for pair in pairs {
-        if !graph.add_pair(pair)? {
-            return Ok(false);
-        }
-    }
-    Ok(true)
-}
-
-/// Adds the pairs of a line, or tells the rule that they or their targets break first.
-fn add_new_pairs<'a>(
-    graph: &mut Graph<'a>,
-    most: u32,
-    targets: &[Target<'_, 'a>],
-    pairs: &[Pair<'a>],
-) -> Result<Option<Rule>, NoMemory>
-    ensures fault { IfOk result (λ fault. fault ≡ rules.pair_fault most graph.old.pairs (shown_pairs pairs.now) (shown_targets targets.now)) }
-    ensures ok { IfOk result (λ fault. fault ≡ None → graph.new ≡ with_pairs graph.old (shown_pairs pairs.now)) }
-{
-    if join_places(pairs) {
-        return Ok(Some(Rule::BadArc));
-    }
-    if !add_pairs(graph, pairs)? {
-        return Ok(Some(Rule::RepeatedArc));
-    }
-    if !are_weighed(most, targets) || weigh_trans(pairs) {
-        return Ok(Some(Rule::BadWeight));
-    }
-    Ok(None)
-}
-
-/// The rule that the words of a source and its targets break first.
-fn name_fault(signals: &Signals<'_>, source: &[u8], targets: &[Target<'_, '_>]) -> Option<Rule>
-    requires { length signals.now < 2 ^ 32 }
-    ensures { result ≡ rules.name_fault (without_dummies signals.now) (source.now ∷ words_in (shown_targets targets.now)) }
-{
-    if !is_node(source) || !are_nodes(targets) {
-        Some(Rule::BadName)
-    } else if is_unknown(signals, source) || have_unknown(signals, targets) {
-        Some(Rule::UnknownSignal)
-    } else if is_signal(signals, source) || have_signal(signals, targets) {
-        Some(Rule::NoEdge)
-    } else {
-        None
-    }
 }
 
 fn has_too_many_arcs(graph: &Graph<'_>, limits: &Limits) -> bool

@@ -1,13 +1,17 @@
 //! The declared signals, found by name.
 
-ghost use Rattle.std.specs.Prelude.{◌≡◌, ◌+◌, ◌<◌, ◌≤◌, ◌^◌, [], not, false, length, IfOk, OnOk, IfSome, Some};
-ghost use Rattle.std.specs.List.{list_any};
+ghost use Rattle.std.specs.Prelude.{◌≡◌, ◌++◌, ◌+◌, ◌<◌, ◌≤◌, ◌^◌, [], not, false, length, IfOk, OnOk, IfSome, IsTrue, Some};
+ghost use Rattle.std.specs.List.{list_all, list_any};
 ghost use Rattle.stg_net.specs.declared.builder.BuildError.TheVariants.{NoMemory as want};
+ghost use Rattle.stg_net.specs.Names as forms;
 ghost use Rattle.stg_net.specs.Net.{number_of};
 ghost use Rattle.astg_read.specs.Built.{with_all_signals};
-ghost use Rattle.astg_read.specs.Header.{same_name};
+ghost use Rattle.astg_read.specs.Header.{same_name, signals_of};
 ghost use Rattle.astg_read.specs.Lists.{added, stands_again};
+ghost use Rattle.astg_read.specs.Shown.{texts};
 
+use crate::names::is_name;
+use astg_lex::Word;
 use indexmap::IndexMap;
 use std::alloc::Global;
 use std::marker::Model;
@@ -88,6 +92,35 @@ impl<'a> Signals<'a> {
         }
         Ok(())
     }
+}
+
+/// Whether each word has the form of a name.
+pub fn are_names(words: &[Word<'_>]) -> bool
+    ensures { result ≡ list_all forms.is_name (texts words.now) }
+{
+    for word in words {
+        if !is_name(word.text) {
+            return false;
+        }
+    }
+    true
+}
+
+/// Adds signals until a name stands again, and tells whether all are new.
+pub fn add_names<'a>(
+    signals: &mut Signals<'a>,
+    kind: Kind,
+    names: &[Word<'a>],
+) -> Result<bool, NoMemory>
+    ensures fresh { IfOk result (λ all_new. all_new ≡ not (stands_again same_name signals.old (signals_of kind (texts names.now)))) }
+    ensures ok { IfOk result (λ all_new. IsTrue all_new → signals.new ≡ signals.old ++ signals_of kind (texts names.now)) }
+{
+    for name in names {
+        if !signals.add(name.text, kind)? {
+            return Ok(false);
+        }
+    }
+    Ok(true)
 }
 
 /// What is left of an error where the net has room: memory ran out.

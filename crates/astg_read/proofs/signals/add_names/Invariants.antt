@@ -2,7 +2,7 @@ use Rattle.std.proofs.Common.{◌≡◌, ◌++◌, drop}
 use Rattle.astg_read.specs.Header.{same_name, signals_of}
 use Rattle.astg_read.specs.Lists.{stands_again}
 use Rattle.astg_read.specs.Shown.{texts}
-use Rattle.astg_read.proofs.reader.add_names.Given as goal
+use Rattle.astg_read.proofs.signals.add_names.Given as goal
 
 abbrev pub invariant-loop-name : goal.invariant-loop-name
 invariant-loop-name l = record {

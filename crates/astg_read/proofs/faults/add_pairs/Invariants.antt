@@ -3,7 +3,7 @@ use Rattle.astg_read.specs.Graphs.{same_pair}
 use Rattle.astg_read.specs.Lists.{stands_again}
 use Rattle.astg_read.specs.Shown.{shown_pairs}
 use Rattle.astg_read.specs.Steps.{with_pairs}
-use Rattle.astg_read.proofs.reader.add_pairs.Given as goal
+use Rattle.astg_read.proofs.faults.add_pairs.Given as goal
 
 abbrev pub invariant-loop-pair : goal.invariant-loop-pair
 invariant-loop-pair l = record {
