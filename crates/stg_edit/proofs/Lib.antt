@@ -32,3 +32,4 @@ pub mod Replaced
 pub mod Counted
 pub mod Packing
 pub mod Compacting
+pub mod WorkedNets

@@ -24,4 +24,5 @@ pub mod Editing
 pub mod Compacted
 pub mod Packing
 pub mod Worn
+pub mod WorkedNets
 pub mod View

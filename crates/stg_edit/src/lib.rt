@@ -13,6 +13,8 @@ mod round;
 mod tests;
 mod walk;
 mod wear;
+#[cfg(test)]
+mod worked;
 
 pub use editor::Editor;
 pub use walk::Walk;
