@@ -12,28 +12,19 @@ use Rattle.std.specs.Option.{option_map_or}
 use Rattle.stg_net.specs.Building.{Building, HasEnds}
 use Rattle.astg_read.specs.Built.{IsReady}
 use Rattle.astg_read.specs.Targets.{is_weight}
-use Rattle.astg_read.specs.Nodes.{Node, Trans, Place, same_edge, same_trans, same_node}
+use Rattle.stg_net.specs.Net.{is_edge}
+use Rattle.stg_net.proofs.Edges.{is_edge-true}
+use Rattle.astg_read.specs.Nodes.{Node, Trans, Place, same_trans, same_node}
 use Rattle.astg_read.specs.Lists.{stands_again}
 use Rattle.astg_read.specs.Graphs.{Pair, PlaceAt, Named, Between, same_pair, same_place, trans_number, place_number, arcs_between, arcs_of, arcs}
 use Rattle.astg_read.specs.Sound.{IsNodeIn, IsBetweenIn, ArePairsIn}
 use Rattle.astg_read.proofs.NumberLemmas.{position_there, same_trans-refl, found_within}
 
-edge-eq : (a b : Edge) → same_edge a b ≡ true → a ≡ b
-edge-eq Rise Rise h = refl
-edge-eq Rise Fall h = absurd (false≢true h)
-edge-eq Rise Toggle h = absurd (false≢true h)
-edge-eq Fall Rise h = absurd (false≢true h)
-edge-eq Fall Fall h = refl
-edge-eq Fall Toggle h = absurd (false≢true h)
-edge-eq Toggle Rise h = absurd (false≢true h)
-edge-eq Toggle Fall h = absurd (false≢true h)
-edge-eq Toggle Toggle h = refl
-
 pub trans-eq : (t u : TransName) → same_trans t u ≡ true → t ≡ u
 trans-eq t u h =
-    let q = and_parts (nat_eq t.signal u.signal) (same_edge t.edge u.edge && nat_eq t.index u.index) h in
-    let r = and_parts (same_edge t.edge u.edge) (nat_eq t.index u.index) q.1 in
-    (λ j. record { signal = eqb-true t.signal u.signal q.0 j; edge = edge-eq t.edge u.edge r.0 j; index = eqb-true t.index u.index r.1 j })
+    let q = and_parts (nat_eq t.signal u.signal) (is_edge t.edge u.edge && nat_eq t.index u.index) h in
+    let r = and_parts (is_edge t.edge u.edge) (nat_eq t.index u.index) q.1 in
+    (λ j. record { signal = eqb-true t.signal u.signal q.0 j; edge = is_edge-true t.edge u.edge r.0 j; index = eqb-true t.index u.index r.1 j })
 
 pub place-eq : (p q : PlaceAt) → same_place p q ≡ true → p ≡ q
 place-eq (Named p) (Named q) h = ap Named ((bytes_eq-Decides p q).0 h)

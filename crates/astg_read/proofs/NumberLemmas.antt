@@ -1,4 +1,4 @@
--- Numbers in order of first appearance stay as more appear.
+-- What is found in a list, and the numbers in order of first appearance.
 use Rattle.std.proofs.Common.{◌≡◌, ◌+◌, ◌<◌, ℕ, suc, List, [], ◌∷◌, ◌++◌, Bool, true, false, cond, not, ◌&&◌, ◌||◌, inl, inr, length, nat_eq, refl, sym, ap, ◌∙◌, arith, Some, None, append_assoc, append-nil, position, eq-eqb}
 use Rattle.std.proofs.lemmas.List.Folds.{list_any-append}
 use Rattle.stg_net.specs.declared.trans.Edge.{Edge}
@@ -7,7 +7,9 @@ use Rattle.std.proofs.lemmas.Bool.{cases_Bool, lt-ltb, false≢true, or_left, or
 use Rattle.std.specs.List.{list_any, position_or_len}
 use Rattle.stg_net.specs.declared.trans.TransName.{TransName}
 use Rattle.astg_read.specs.Lists.{added, firsts}
-use Rattle.astg_read.specs.Nodes.{same_edge, same_trans}
+use Rattle.stg_net.specs.Net.{is_edge}
+use Rattle.stg_net.proofs.Edges.{is_edge-itself}
+use Rattle.astg_read.specs.Nodes.{same_trans}
 
 -- one that is there is found before the end
 pub found_within : {X : Type 0} (f : X → Bool) (xs : List X) → list_any f xs ≡ true → position_or_len f xs < length xs
@@ -44,15 +46,10 @@ any-missing f xs h = elim (cases_Bool (list_any f xs)) [
   | inr k ↦ k
 ]
 
-pub same_edge-refl : (e : Edge) → same_edge e e ≡ true
-same_edge-refl Rise = refl
-same_edge-refl Fall = refl
-same_edge-refl Toggle = refl
-
 pub same_trans-refl : (t : TransName) → same_trans t t ≡ true
-same_trans-refl t = and_from (nat_eq t.signal t.signal) (same_edge t.edge t.edge && nat_eq t.index t.index)
+same_trans-refl t = and_from (nat_eq t.signal t.signal) (is_edge t.edge t.edge && nat_eq t.index t.index)
     (eq-eqb t.signal t.signal refl)
-    (and_from (same_edge t.edge t.edge) (nat_eq t.index t.index) (same_edge-refl t.edge) (eq-eqb t.index t.index refl))
+    (and_from (is_edge t.edge t.edge) (nat_eq t.index t.index) (is_edge-itself t.edge) (eq-eqb t.index t.index refl))
 
 -- a number that was found is there
 pub position-within : {X : Type 0} (f : X → Bool) (xs : List X) (n : ℕ) → position f xs ≡ Some n → n < length xs

@@ -13,11 +13,12 @@ use Rattle.astg_read.specs.declared.graph.Place.TheVariants as read_place
 use Rattle.astg_read.specs.contracts.graph.PlacePartialEq.TheImpl as places
 use Rattle.astg_read.specs.declared.graph.Ends.{Ends}
 use Rattle.astg_read.specs.contracts.graph.EndsPartialEq.TheImpl as ends
-use Rattle.astg_read.specs.Nodes.{same_edge, same_trans, same_node}
+use Rattle.stg_net.specs.Net.{is_edge}
+use Rattle.astg_read.specs.Nodes.{same_trans, same_node}
 use Rattle.astg_read.specs.Graphs.{same_place}
 use Rattle.astg_read.specs.Shown.{shown_node, shown_place}
 
-edges-same : (a b : Edge) → (edges.eq-value).it a b ≡ same_edge a b
+edges-same : (a b : Edge) → (edges.eq-value).it a b ≡ is_edge a b
 edges-same Rise Rise = refl
 edges-same Rise Fall = refl
 edges-same Rise Toggle = refl

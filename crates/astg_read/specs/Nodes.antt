@@ -4,7 +4,7 @@ use Rattle.stg_net.specs.declared.trans.Edge.{Edge}
 use Rattle.stg_net.specs.declared.trans.Edge.TheVariants.{Rise, Fall, Toggle}
 use Rattle.stg_net.specs.declared.trans.TransName.{TransName}
 use Rattle.stg_net.specs.declared.signal.Signal.{Signal}
-use Rattle.stg_net.specs.Net.{number_of}
+use Rattle.stg_net.specs.Net.{number_of, is_edge}
 use Rattle.stg_net.specs.Names.{is_name, is_in_name}
 use Rattle.astg_read.specs.Rows.{Word}
 use Rattle.astg_read.specs.Names.{WordOfTrans, read_trans_word, index_of}
@@ -15,16 +15,9 @@ pub data Node : Type 0 where
   Trans : TransName → Node
   Place : Word → Node
 
--- whether two edges are one
-abbrev pub same_edge : Edge → Edge → Bool
-same_edge Rise Rise = true
-same_edge Fall Fall = true
-same_edge Toggle Toggle = true
-same_edge a b = false
-
 -- whether two transitions are one
 abbrev pub same_trans : TransName → TransName → Bool
-same_trans a b = nat_eq a.signal b.signal && (same_edge a.edge b.edge && nat_eq a.index b.index)
+same_trans a b = nat_eq a.signal b.signal && (is_edge a.edge b.edge && nat_eq a.index b.index)
 
 -- whether two nodes are one
 abbrev pub same_node : Node → Node → Bool

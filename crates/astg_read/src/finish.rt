@@ -277,7 +277,7 @@ fn net_of<'a>(
 }
 
 /// The specification of signals, a graph, and marks on its places.
-pub fn build<'a>(
+fn build<'a>(
     alloc: Global,
     limits: &Limits,
     signals: Signals<'a>,

@@ -14,7 +14,7 @@ ghost use Rattle.stg_edit.specs.Packing.{IsShownBy, weighted_arc, row_arcs, all_
 use crate::editor::Editor;
 use crate::walk::Walk;
 use std::alloc::Global;
-use stg_net::{Kind, NetArc, NoMemory, Nums, Seq, Signal, TransName};
+use stg_net::{Kind, NetArc, NoMemory, Nums, Seq, Signal, TransName, is_one_of, renumber};
 
 /// Whether there is a live place of that number.
 fn has_place(editor: &Editor, p: u32) -> bool
@@ -70,26 +70,18 @@ pub fn list_trans(alloc: Global, editor: &Editor) -> Result<Nums, NoMemory>
     Ok(list)
 }
 
-/// Whether the signal is one of the own ones.
-fn is_among_own(own: &[u32], s: u32) -> bool
-    ensures { result ≡ is_one_of own.now s }
-{
-    own.iter().any(|k| *k == s)
-}
-
 /// The signal of that number, which keeps its kind where it is an own one.
 fn show_signal(alloc: Global, signals: &[Signal], own: &[u32], s: u32) -> Result<Signal, NoMemory>
     requires { s < length signals.now }
     ensures { IfOk result (λ x. x ≡ signal_shown signals.now own.now s) }
 {
     let signal = &signals[s as usize];
-    let name = Seq::from_slice(alloc, signal.name.as_slice())?;
-    let kind = if is_among_own(own, s) {
+    let kind = if is_one_of(own, s as usize) {
         signal.kind
     } else {
         Kind::Input
     };
-    Ok(Signal { name, kind })
+    signal.copy_as(alloc, kind)
 }
 
 /// The signals of these numbers, where the own ones alone keep their kinds.
@@ -107,13 +99,6 @@ pub fn show_signals(
         list.push(show_signal(alloc, signals, own, *s)?)?;
     }
     Ok(list)
-}
-
-/// How many of the kept numbers stand before that one.
-fn renumber(kept: &[u32], old: u32) -> usize
-    ensures { result ≡ new_number kept.now old }
-{
-    kept.iter().take_while(|k| **k != old).count()
 }
 
 /// The name of a live transition with the number that its signal has among those that are kept.

@@ -403,22 +403,12 @@ fn make_mark(arena: &Arena) -> Mark
     }
 }
 
-fn copy_signal(alloc: Global, signal: &Signal) -> Result<Signal, NoMemory>
-    ensures { IfOk result (λ s. s ≡ signal.now) }
-{
-    let name = Seq::from_slice(alloc, signal.name.as_slice())?;
-    Ok(Signal {
-        name,
-        kind: signal.kind,
-    })
-}
-
 fn copy_signals(alloc: Global, signals: &[Signal]) -> Result<Seq<Signal>, NoMemory>
     ensures { IfOk result (λ list. list ≡ signals.now) }
 {
     let mut list = Seq::new(alloc);
     for signal in signals {
-        list.push(copy_signal(alloc, signal)?)?;
+        list.push(signal.copy_as(alloc, signal.kind)?)?;
     }
     Ok(list)
 }
