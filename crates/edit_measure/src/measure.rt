@@ -1,6 +1,6 @@
 //! Contractions that are taken back.
 
-ghost use Rattle.std.specs.Prelude.{◌≡◌, ◌≤◌, ◌++◌, ◌∷◌, ◌↔◌, [], IfOk, IsTrue, OnOk};
+ghost use Rattle.std.specs.Prelude.{◌≡◌, ◌≤◌, ◌+◌, ◌-◌, ◌^◌, ◌++◌, ◌∷◌, ◌↔◌, [], min, IfOk, IsTrue, OnOk};
 ghost use Rattle.stg_net.specs.declared.limits.TheConstants.Limits.{PART};
 ghost use Rattle.stg_net.specs.Net.{IsWithin};
 ghost use Rattle.stg_net.specs.Graph.{IsDummy, IsTrans};
@@ -70,7 +70,8 @@ fn is_dummy(editor: &Editor, t: u32) -> bool
 fn contract_and_undo(editor: &mut Editor, t: u32) -> Result<(), NoMemory>
     requires live { IsDummy editor.old.now t }
     requires light { IsLight editor.old.now }
-    ensures { OnOk result (editor.new.now ≡ editor.old.now) }
+    ensures now { OnOk result (editor.new.now ≡ editor.old.now) }
+    ensures undone { OnOk result (editor.new.undone ≡ min (editor.old.undone + 1) (2 ^ 64 - 1)) }
 {
     contract(editor, t)?;
     editor.undo();
@@ -81,7 +82,8 @@ fn contract_and_undo(editor: &mut Editor, t: u32) -> Result<(), NoMemory>
 fn count_made(editor: &mut Editor, t: u32) -> Result<u64, NoMemory>
     requires live { IsDummy editor.old.now t }
     requires light { IsLight editor.old.now }
-    ensures { OnOk result (editor.new.now ≡ editor.old.now) }
+    ensures now { OnOk result (editor.new.now ≡ editor.old.now) }
+    ensures undone { OnOk result (editor.new.undone ≡ min (editor.old.undone + 1) (2 ^ 64 - 1)) }
 {
     let first = editor.next_place();
     contract(editor, t)?;
@@ -96,6 +98,7 @@ fn contract(editor: &mut Editor, t: u32) -> Result<(), NoMemory>
     requires light { IsLight editor.old.now }
     ensures now { OnOk result (editor.new.now ≡ contracted editor.old.now t) }
     ensures past { OnOk result (editor.new.past ≡ editor.old.past ++ editor.old.now ∷ []) }
+    ensures undone { OnOk result (editor.new.undone ≡ editor.old.undone) }
 {
     let (places, arcs) = room_for(editor, t)?;
     editor.reserve(1, places, arcs)?;
