@@ -8,5 +8,6 @@ pub mod Answering
 pub mod Unmade
 pub mod Files
 pub mod Printing
+pub mod Statuses
 pub mod Run
 pub mod Ends

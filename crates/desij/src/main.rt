@@ -48,7 +48,7 @@ fn all_words(rt: &(impl Env + AllocGlobal)) -> Result<Vec<String>, NoMemory> {
 
 fn main(rt: HostRuntime) -> ExitCode {
     let Ok(words) = all_words(&rt) else {
-        return ExitCode::from(Status::NoMemory as u8);
+        return ExitCode::from(Status::NoMemory.code());
     };
     let mut source = FileSource::new(&rt);
     let mut shelf = FolderShelf::new(&rt);
@@ -60,5 +60,5 @@ fn main(rt: HostRuntime) -> ExitCode {
         &mut shelf,
         &mut sink,
     );
-    ExitCode::from(status as u8)
+    ExitCode::from(status.code())
 }

@@ -1,5 +1,8 @@
 //! How a run ends.
 
+ghost use Rattle.std.specs.Prelude.{◌≡◌};
+ghost use Rattle.desij.specs.Statuses.{exit_code};
+
 /// How a run ends. The number is the exit status.
 #[derive(Clone, Copy, Debug, PartialEq, Eq)]
 pub enum Status {
@@ -19,4 +22,13 @@ pub enum Status {
     NoMemory = 7,
     /// Never.
     ServeFault = 8,
+}
+
+impl Status {
+    /// The exit status.
+    pub fn code(self) -> u8
+        ensures { result ≡ exit_code self }
+    {
+        self as u8
+    }
 }
