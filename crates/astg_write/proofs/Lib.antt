@@ -21,3 +21,4 @@ pub mod TextLength
 pub mod WrittenBack
 pub mod PlaceArcs
 pub mod TransArcs
+pub mod ReadAgain

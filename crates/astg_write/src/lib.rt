@@ -1,6 +1,7 @@
 //! The text of a component.
 #![tactic(auto)]
 
+mod again;
 mod arcs;
 mod component;
 mod graph;
@@ -11,4 +12,5 @@ mod place;
 #[cfg(test)]
 mod tests;
 
+pub use again::read_again;
 pub use component::write_net;

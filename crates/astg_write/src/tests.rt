@@ -5,7 +5,7 @@ ghost use Rattle.stg_net.specs.declared.trans.TransName.{TransName};
 ghost use Rattle.stg_net.specs.Net.{IsWithin};
 ghost use Rattle.stg_net.specs.Names.{IsWellNamed};
 
-use crate::write_net;
+use crate::{read_again, write_net};
 use std::alloc::Global;
 use std::test::Fail;
 use stg_net::{BuildError, Edge, Kind, Limits, Net, NetArc, NetBuilder, TransName};
@@ -155,5 +155,15 @@ fn writes_worked_examples(rt: HostRuntime) -> Result<(), Fail> {
     ] {
         assert_eq!(rt; text.as_slice(), want, "{name}");
     }
+    Ok(())
+}
+
+#[test]
+fn reads_an_ordered_net_again(rt: HostRuntime) -> Result<(), Fail> {
+    let alloc = rt.alloc();
+    let net = c_element(alloc)?;
+    let again = read_again(alloc, &net, 1)?;
+    assert_eq!(rt; again.tokens(), net.tokens());
+    assert_eq!(rt; again.arcs(), net.arcs());
     Ok(())
 }
