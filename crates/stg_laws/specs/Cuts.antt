@@ -1,5 +1,5 @@
 -- What is seen of a run: the full names of its transitions, its cut to some signals, and its trace.
-use Rattle.std.specs.Prelude.{◌≡◌, ℕ, List, map, filter, filter_map}
+use Rattle.std.specs.Prelude.{◌≡◌, ◌↔◌, ℕ, List, map, filter, filter_map}
 use Rattle.stg_net.specs.declared.trans.Edge.{Edge}
 use Rattle.stg_net.specs.Graph.{Graph, FullName, full_name_at, is_among}
 use Rattle.stg_net.specs.Run.{IsRun}
@@ -54,3 +54,7 @@ IsNameList g names = IsCutOfRun g g.known names
 -- the labels are a trace of the graph: that of a run on the known signals
 abbrev pub IsTrace : Graph → List Label → Type 0
 IsTrace g labels = IsTraceOfRun g g.known labels
+
+-- both graphs have the same name lists
+abbrev pub HaveSameNameLists : Graph → Graph → Type 0
+HaveSameNameLists g h = (names : List FullName) → IsNameList g names ↔ IsNameList h names

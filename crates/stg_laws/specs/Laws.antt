@@ -1,19 +1,24 @@
 -- The laws, each for all graphs or nets.
 use Rattle.std.specs.Prelude.{◌≡◌, ◌↔◌, ℕ, ◌<◌, List, length, IsTrue}
-use Rattle.stg_net.specs.Graph.{Graph, full_name_at, has_signal_of, takes}
+use Rattle.stg_net.specs.Graph.{Graph, IsTrans, IsDummy, full_name_at, has_signal_of, takes}
 use Rattle.stg_net.specs.Net.{NetLists, IsNet}
 use Rattle.stg_net.specs.Initial.{graph_of}
 use Rattle.stg_net.specs.Run.{IsRun, reached}
 use Rattle.stg_net.specs.Ordered.{ordered}
+use Rattle.stg_net.specs.Contraction.{contracted, without_place, without_trans}
 use Rattle.stg_laws.specs.Closed.{IsClosed}
-use Rattle.stg_laws.specs.Cuts.{cut}
-use Rattle.stg_laws.specs.Deterministic.{HasNoDummy, IsDeterministic}
+use Rattle.stg_laws.specs.Cuts.{cut, HaveSameNameLists}
+use Rattle.stg_laws.specs.Deterministic.{IsClean, HasNoDummy, IsDeterministic}
 use Rattle.stg_laws.specs.Conflict.{HasNoAutoConflict}
 use Rattle.stg_laws.specs.Consistent.{HasNoToggle, IsConsistent}
 use Rattle.stg_laws.specs.Stgs.{Stg, HasDistinctNames, IsStg, stg_of, stg_at, drives, IsInternal}
 use Rattle.stg_laws.specs.Correct.{AreWired, IsCorrect}
 use Rattle.stg_laws.specs.Faithful.{IsFaithful}
 use Rattle.stg_laws.specs.Renumbered.{IsRenumbered}
+use Rattle.stg_laws.specs.Secure.{IsPureOrdinary, IsSecure}
+use Rattle.stg_laws.specs.RedundantPlaces.{IsStructurallyRedundant, IsRedundantPlace}
+use Rattle.stg_laws.specs.RedundantDummies.{IsRedundantDummy}
+use Rattle.stg_laws.specs.LeaveOut.{leave_out, ComesFrom}
 
 -- components that are wired and faithful are a correct decomposition of a deterministic specification
 abbrev pub FaithfulPartsAreCorrect : Type 0
@@ -41,3 +46,56 @@ CutTellsInputs = (g : Graph) (own signals : List (List ℕ)) (t p : ℕ) (v w : 
 -- a graph without dummies, toggles and structural auto-conflicts, in each of whose runs the edges of each signal alternate, is deterministic
 abbrev pub ConsistencyDetermines : Type 0
 ConsistencyDetermines = (g : Graph) → HasNoDummy g → HasNoToggle g → HasNoAutoConflict g → IsConsistent g → IsDeterministic g
+
+-- what is left of a run without the contracted transition is a run of the contracted graph
+abbrev pub ContractionFollows : Type 0
+ContractionFollows = (g : Graph) (t : ℕ) (run : List ℕ) → IsPureOrdinary g t → IsRun g run
+    → IsRun (contracted g t) (leave_out t run)
+
+-- a secure contraction adds no run: each run of the contracted graph comes from a run of the graph before
+abbrev pub ContractionAddsNoRun : Type 0
+ContractionAddsNoRun = (g : Graph) (t : ℕ) (run : List ℕ) → IsTrans g t → IsPureOrdinary g t
+    → IsSecure g t → IsRun (contracted g t) run → ComesFrom g t run
+
+-- the secure contraction of a dummy keeps the name lists
+abbrev pub ContractionKeepsNames : Type 0
+ContractionKeepsNames = (g : Graph) (t : ℕ) → IsDummy g t → IsPureOrdinary g t → IsSecure g t
+    → HaveSameNameLists g (contracted g t)
+
+-- a secure contraction that brings no structural auto-conflict keeps a clean graph clean
+abbrev pub ContractionKeepsClean : Type 0
+ContractionKeepsClean = (g : Graph) (t : ℕ) → IsTrans g t → IsPureOrdinary g t → IsSecure g t
+    → HasNoAutoConflict (contracted g t) → IsClean g → IsClean (contracted g t)
+
+-- the deletion of a place that meets Berthelot's condition keeps all runs
+abbrev pub StructuralDeletionKeepsRuns : Type 0
+StructuralDeletionKeepsRuns = (g : Graph) (p : ℕ) (run : List ℕ) → IsStructurallyRedundant g p
+    → IsRun g run ↔ IsRun (without_place g p) run
+
+-- each of the three rules is a case of Berthelot's condition
+abbrev pub RulesAreStructural : Type 0
+RulesAreStructural = (g : Graph) (p : ℕ) → IsRedundantPlace g p → IsStructurallyRedundant g p
+
+-- the deletion of a redundant place keeps all runs
+abbrev pub PlaceDeletionKeepsRuns : Type 0
+PlaceDeletionKeepsRuns = (g : Graph) (p : ℕ) (run : List ℕ) → IsRedundantPlace g p
+    → IsRun g run ↔ IsRun (without_place g p) run
+
+-- the deletion of a redundant dummy keeps the name lists
+abbrev pub DummyDeletionKeepsNames : Type 0
+DummyDeletionKeepsNames = (g : Graph) (t : ℕ) → IsRedundantDummy g t
+    → HaveSameNameLists g (without_trans g t)
+
+-- the deletion of a transition adds no run
+abbrev pub TransDeletionAddsNoRun : Type 0
+TransDeletionAddsNoRun = (g : Graph) (t : ℕ) (run : List ℕ) → IsRun (without_trans g t) run
+    → IsRun g run
+
+-- the deletion of a redundant place keeps a clean graph clean
+abbrev pub PlaceDeletionKeepsClean : Type 0
+PlaceDeletionKeepsClean = (g : Graph) (p : ℕ) → IsRedundantPlace g p → IsClean g
+    → IsClean (without_place g p)
+
+-- and so does that of any transition
+abbrev pub TransDeletionKeepsClean : Type 0
+TransDeletionKeepsClean = (g : Graph) (t : ℕ) → IsClean g → IsClean (without_trans g t)

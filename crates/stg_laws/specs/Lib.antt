@@ -9,4 +9,8 @@ pub mod Closed
 pub mod Groups
 pub mod Faithful
 pub mod Renumbered
+pub mod Secure
+pub mod RedundantPlaces
+pub mod RedundantDummies
+pub mod LeaveOut
 pub mod Laws

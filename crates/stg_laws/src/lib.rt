@@ -2,6 +2,9 @@
 #![tactic(auto)]
 
 ghost use Rattle.stg_laws.specs.Laws.{ConsistencyDetermines, CutTellsInputs, FaithfulPartsAreCorrect, OrderRenumbers, OrderDrivesTheSame};
+ghost use Rattle.stg_laws.specs.Laws.{ContractionFollows, ContractionAddsNoRun, ContractionKeepsNames, ContractionKeepsClean};
+ghost use Rattle.stg_laws.specs.Laws.{StructuralDeletionKeepsRuns, RulesAreStructural, PlaceDeletionKeepsRuns, PlaceDeletionKeepsClean};
+ghost use Rattle.stg_laws.specs.Laws.{DummyDeletionKeepsNames, TransDeletionAddsNoRun, TransDeletionKeepsClean};
 
 /// Components that follow the specification, keep its traces and agree with it on their own
 /// transitions are a correct decomposition of it, where it is deterministic.
@@ -23,4 +26,34 @@ pub fn law_inputs()
 /// A consistent graph without dummies, toggles and structural auto-conflicts is deterministic.
 pub fn law_consistent()
     ensures { ConsistencyDetermines }
+{}
+
+/// What is left of a run without the contracted transition is a run of the contracted graph, where
+/// the transition is pure and ordinary.
+pub fn law_follows()
+    ensures { ContractionFollows }
+{}
+
+/// A secure contraction adds no run, and that of a dummy keeps the name lists.
+pub fn law_secure()
+    ensures runs { ContractionAddsNoRun }
+    ensures names { ContractionKeepsNames }
+{}
+
+/// The deletion of a redundant place keeps all runs, as each rule is a case of Berthelot's condition;
+/// that of a redundant dummy keeps the name lists, and that of any transition adds no run.
+pub fn law_deletions()
+    ensures structural { StructuralDeletionKeepsRuns }
+    ensures rules { RulesAreStructural }
+    ensures place { PlaceDeletionKeepsRuns }
+    ensures names { DummyDeletionKeepsNames }
+    ensures runs { TransDeletionAddsNoRun }
+{}
+
+/// A secure contraction that brings no structural auto-conflict keeps a clean graph clean, and so do
+/// the deletion of a redundant place and that of any transition.
+pub fn law_clean()
+    ensures contraction { ContractionKeepsClean }
+    ensures place { PlaceDeletionKeepsClean }
+    ensures trans { TransDeletionKeepsClean }
 {}
