@@ -2,6 +2,7 @@ pub mod Runs
 pub mod Names
 pub mod Cuts
 pub mod Inputs
+pub mod KnownSignals
 pub mod Keeping
 pub mod Renumbering
 pub mod Deriving

@@ -1,5 +1,5 @@
 -- The laws, each for all graphs or nets.
-use Rattle.std.specs.Prelude.{◌≡◌, ◌↔◌, ℕ, ◌<◌, List, length, IsTrue}
+use Rattle.std.specs.Prelude.{◌≡◌, ◌↔◌, ℕ, ◌<◌, List, All, length, IsTrue}
 use Rattle.stg_net.specs.Graph.{Graph, IsTrans, IsDummy, full_name_at, has_signal_of, takes}
 use Rattle.stg_net.specs.Net.{NetLists, IsNet}
 use Rattle.stg_net.specs.Initial.{graph_of}
@@ -7,6 +7,7 @@ use Rattle.stg_net.specs.Run.{IsRun, reached}
 use Rattle.stg_net.specs.Ordered.{ordered}
 use Rattle.stg_net.specs.Contraction.{contracted, without_place, without_trans}
 use Rattle.stg_laws.specs.Closed.{IsClosed}
+use Rattle.stg_laws.specs.Groups.{known_to, names_at}
 use Rattle.stg_laws.specs.Cuts.{cut, HaveSameNameLists}
 use Rattle.stg_laws.specs.Deterministic.{IsClean, HasNoDummy, IsDeterministic}
 use Rattle.stg_laws.specs.Conflict.{HasNoAutoConflict}
@@ -42,6 +43,11 @@ OrderDrivesTheSame = (n : NetLists) → IsNet n → DriveTheSame (stg_of n) (stg
 abbrev pub CutTellsInputs : Type 0
 CutTellsInputs = (g : Graph) (own signals : List (List ℕ)) (t p : ℕ) (v w : List ℕ) → HasDistinctNames g → IsClosed g own signals → IsTrue (has_signal_of own (full_name_at g t)) → 0 < takes g t p
     → IsRun g v → IsRun g w → cut g signals v ≡ cut g signals w → reached g v p ≡ reached g w p
+
+-- what signals of a net have to know closes them
+abbrev pub KnownCloses : Type 0
+KnownCloses = (n : NetLists) (own : List ℕ) → IsNet n → All (λ s. s < length n.signals) own
+    → IsClosed (graph_of n) (names_at n own) (names_at n (known_to n own))
 
 -- a graph without dummies, toggles and structural auto-conflicts, in each of whose runs the edges of each signal alternate, is deterministic
 abbrev pub ConsistencyDetermines : Type 0

@@ -1,31 +1,17 @@
 -- Conflicts and the lists that lead along them.
-use Rattle.std.proofs.Common.{◌≡◌, ℕ, ◌<◌, ◌&&◌, ◌==◌, not, Bool, true, false, List, [], ◌∷◌, ◌++◌, length, get_or, Contains, refl, sym, ap, ◌∙◌, subst, arith, eq-eqb, inl, inr}
+use Rattle.std.proofs.Common.{◌≡◌, ℕ, ◌<◌, ◌&&◌, ◌==◌, not, Bool, true, false, List, [], ◌∷◌, ◌++◌, length, get_or, refl, sym, ap, ◌∙◌, subst, arith, inl, inr}
 use Rattle.std.specs.List.{list_any, range_with_len}
-use Rattle.std.proofs.lemmas.Bool.{and_parts, and_from, or_right, not-true, cases_lt, eqb-true, false≢true}
-use Rattle.std.proofs.lemmas.List.{get_or_default, get_or_past}
-use Rattle.std.proofs.lemmas.List.Folds.{list_any_at, Any-from_list_any}
+use Rattle.std.proofs.lemmas.Bool.{and_parts, and_from, not-true, cases_lt, eqb-true, false≢true}
+use Rattle.std.proofs.lemmas.List.{get_or_past}
+use Rattle.std.proofs.lemmas.List.Folds.{list_any_at}
 use Rattle.std.proofs.lemmas.List.FromFn.{length-range_with_len, get_or-range_with_len}
 use Rattle.stg_net.specs.declared.signal.Kind.TheVariants.{Input}
 use Rattle.stg_net.specs.declared.signal.Signal.{Signal}
 use Rattle.stg_net.specs.declared.arc.NetArc.{NetArc}
 use Rattle.stg_net.specs.Net.{NetLists}
-use Rattle.stg_net.specs.Component.{is_one_of}
 use Rattle.stg_laws.specs.Stgs.{is_driven}
-use Rattle.stg_laws.specs.Groups.{signal_of, is_driven_at, takes_from, is_at, own_take_from, is_known_to, share_place, in_conflict, LeadsTo, AreJoined}
-
-module _ {X : Type 0} where
-  -- an item that passes
-  pub record Passing (test : X → Bool) (xs : List X) : Type 0 where
-    pub at : ℕ
-    pub inside : at < length xs
-    pub item : X
-    pub item_is : (d : X) → get_or xs at d ≡ item
-    pub passes : test item ≡ true
-
-  pub passing : (test : X → Bool) (xs : List X) → list_any test xs ≡ true → Passing test xs
-  passing test xs e =
-      let a = Any-from_list_any test xs e in
-      record { at = a.0; inside = a.2; item = a.1; item_is = λ d. get_or_default xs a.0 d a.1 a.2 ∙ a.3; passes = a.4 }
+use Rattle.stg_laws.proofs.KnownSignals.{passing}
+use Rattle.stg_laws.specs.Groups.{signal_of, is_driven_at, takes_from, share_place, in_conflict, LeadsTo, AreJoined}
 
 pub and_turn : (b c : Bool) → (b && c) ≡ true → (c && b) ≡ true
 and_turn b c e = let p = and_parts b c e in and_from c b p.1 p.0
@@ -54,28 +40,6 @@ taker n s p e =
       place_is = eqb-true f.item.place p inner.1;
       signal_is = eqb-true (signal_of n f.item) s outer.1;
     }
-
-pub takes_by : (n : NetLists) (a : NetArc) (i : ℕ) → i < length n.arcs → get_or n.arcs i a ≡ a → a.into ≡ false → takes_from n (signal_of n a) a.place ≡ true
-takes_by n a i inside a_is out =
-    let test = λ (b : NetArc). not b.into && (b.place == a.place) && (signal_of n b == signal_of n a) in
-    list_any_at test n.arcs i a inside (ap test a_is ∙ rw out (and_from (a.place == a.place) (signal_of n a == signal_of n a) (eq-eqb a.place a.place refl) (eq-eqb (signal_of n a) (signal_of n a) refl)))
-
-pub at_by : (n : NetLists) (a : NetArc) (i : ℕ) → i < length n.arcs → get_or n.arcs i a ≡ a → is_at n (signal_of n a) a.place ≡ true
-at_by n a i inside a_is =
-    let test : NetArc → Bool = λ b. (b.place == a.place) && (signal_of n b == signal_of n a) in
-    list_any_at test n.arcs i a inside (ap test a_is ∙ and_from (a.place == a.place) (signal_of n a == signal_of n a) (eq-eqb a.place a.place refl) (eq-eqb (signal_of n a) (signal_of n a) refl))
-
--- a list of signals takes from a place where one of them does
-pub own_takes : (n : NetLists) (own : List ℕ) (s p : ℕ) → Contains own s → takes_from n s p ≡ true → own_take_from n own p ≡ true
-own_takes n own s p c e = list_any_at (λ o. takes_from n o p) own c.0 s c.1 (ap (λ o. takes_from n o p) c.2 ∙ e)
-
--- and has to know each signal at the place
-pub known_at : (n : NetLists) (own : List ℕ) (s p : ℕ) → p < length n.tokens → own_take_from n own p ≡ true → is_at n s p ≡ true → is_known_to n own s ≡ true
-known_at n own s p inside takes at =
-    let test : ℕ → Bool = λ q. own_take_from n own q && is_at n s q in
-    let here : get_or (range_with_len 0 (length n.tokens)) p 0 ≡ p = omega (arith, get_or-range_with_len 0 (length n.tokens) p 0 inside) in
-    or_right (is_one_of own s) (list_any test (range_with_len 0 (length n.tokens)))
-    (list_any_at test (range_with_len 0 (length n.tokens)) p 0 (omega (arith, inside, length-range_with_len 0 (length n.tokens))) (ap test here ∙ and_from (own_take_from n own p) (is_at n s p) takes at))
 
 -- a driven signal stands among the signals
 pub driven_there : (n : NetLists) (s : ℕ) → is_driven_at n.signals s ≡ true → s < length n.signals

@@ -15,9 +15,10 @@ use Rattle.stg_laws.specs.Groups.{signal_of, is_driven_at, takes_from, is_at, ow
 use Rattle.stg_partition.specs.declared.group.Group.{Group}
 use Rattle.stg_partition.specs.PlainGroups.{ArePlainGroups}
 use Rattle.stg_partition.specs.Joining.{taker_at, is_led, shows, AreMarks, is_known_by, group_of, is_leader, IsJoining}
-use Rattle.stg_partition.proofs.Conflicts.{at_by, driven_there, passing, own_takes, known_at, joined_driven}
+use Rattle.stg_laws.proofs.KnownSignals.{at_by, passing, own_takes, known_at, passing_contained}
+use Rattle.stg_partition.proofs.Conflicts.{driven_there, joined_driven}
 use Rattle.stg_partition.proofs.Leading.{leader_of, taker_there, led_by, joined_led}
-use Rattle.stg_partition.proofs.Numbers.{numbers_increase, numbers_pass, contained_passes, passing_contained, first_number}
+use Rattle.stg_partition.proofs.Numbers.{numbers_increase, numbers_pass, contained_passes, first_number}
 
 bool_same : (b c : Bool) → (b ≡ true → c ≡ true) → (c ≡ true → b ≡ true) → b ≡ c
 bool_same true c to from = sym (to refl)

@@ -1,14 +1,15 @@
 -- The numbers below a bound that pass a test.
-use Rattle.std.proofs.Common.{◌≡◌, ℕ, zero, suc, ◌+◌, ◌<◌, Bool, true, false, [], get_or, All, Contains, slice_index, refl, sym, ◌∙◌, subst, arith, inl, inr}
+use Rattle.std.proofs.Common.{◌≡◌, ℕ, ◌+◌, ◌<◌, Bool, true, false, [], get_or, All, Contains, slice_index, sym, ◌∙◌, subst, arith, inl, inr}
 use Rattle.std.specs.List.{range_with_len}
 use Rattle.std.specs.List.Sorted.{IsStrictlyIncreasing}
 use Rattle.std.proofs.lemmas.Bool.{cases_Bool, cases_lt, cases_order, false≢true}
 use Rattle.std.proofs.lemmas.List.{get_or_default}
-use Rattle.std.proofs.lemmas.List.Elements.{All-nil, All-cons, Contains-append_left, Contains-append_right}
+use Rattle.std.proofs.lemmas.List.Elements.{All-nil, All-cons}
 use Rattle.std.proofs.lemmas.List.FromFn.{length-range_with_len, get_or-range_with_len}
 use Rattle.std.proofs.lemmas.List.Kept.{IsStrictlyIncreasing-filter, AllPairs-from_increasing}
 use Rattle.stg_net.specs.Ordered.{numbers_where, only_where}
 use Rattle.stg_net.proofs.Buckets.{numbers_where-filter, All-listed_below}
+use Rattle.stg_laws.proofs.KnownSignals.{passing_contained}
 
 range_increases : (n : ℕ) → IsStrictlyIncreasing (range_with_len 0 n)
 range_increases n k below =
@@ -34,18 +35,6 @@ numbers_pass test n = All-listed_below (Passes test n) (only_where test) n (λ k
 
 pub contained_passes : (test : ℕ → Bool) (n k : ℕ) → Contains (numbers_where test n) k → Passes test n k
 contained_passes test n k c = subst (Passes test n) c.2 (numbers_pass test n c.0 k c.1)
-
--- each number below the bound that passes is among them
-pub passing_contained : (test : ℕ → Bool) (n k : ℕ) → k < n → test k ≡ true → Contains (numbers_where test n) k
-passing_contained test zero k below e = absurd (omega arith)
-passing_contained test (suc n) k below e = elim (cases_lt k n) [
-  | inl l ↦ Contains-append_left (numbers_where test n) (only_where test n) k (passing_contained test n k l e)
-  | inr r ↦
-      let same : n ≡ k = omega arith in
-      let P : ℕ → Type 0 = λ m. Contains (only_where test m) k in
-      let here : Contains (only_where test k) k = rw e (0, omega arith, refl) in
-      Contains-append_right (numbers_where test n) (only_where test n) k (subst P (sym same) here)
-]
 
 -- the first of them is the least number that passes
 pub first_number : (test : ℕ → Bool) (n k : ℕ) → k < n → test k ≡ true → ((j : ℕ) → j < k → test j ≡ false) → slice_index (numbers_where test n) 0 ≡ k
