@@ -2,6 +2,7 @@ mod ExampleWords
 mod Examples
 mod RawExamples
 mod LimitExamples
+mod AcceptedExamples
 pub mod StepLemmas
 pub mod NumberLemmas
 pub mod Keyed
@@ -27,3 +28,6 @@ pub mod MarkLemmas
 pub mod BuiltLemmas
 pub mod FinishLemmas
 pub mod OneSpec
+pub mod ArcOrder
+pub mod ArcsThere
+pub mod Accepted

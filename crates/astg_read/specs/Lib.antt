@@ -19,3 +19,4 @@ pub mod Built
 pub mod Marks
 pub mod Settled
 pub mod Standing
+pub mod Laws

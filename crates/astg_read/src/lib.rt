@@ -6,6 +6,7 @@ mod faults;
 mod finish;
 mod graph;
 mod kinds;
+mod laws;
 mod line_error;
 mod marking;
 mod marks;
@@ -21,5 +22,6 @@ mod targets;
 #[cfg(test)]
 mod tests;
 
+pub use laws::law_accepted;
 pub use read::{read_part, read_spec, read_with};
 pub use rule::{ReadError, Rule};
