@@ -1,4 +1,5 @@
 pub mod Net
+pub mod LimitValues
 pub mod Names
 pub mod Words
 pub mod Building

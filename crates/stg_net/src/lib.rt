@@ -17,7 +17,7 @@ mod trans;
 
 pub use arc::NetArc;
 pub use builder::{BuildError, NetBuilder};
-pub use limits::Limits;
+pub use limits::{Limits, law_limits};
 pub use net::{Net, is_one_of};
 pub use no_memory::NoMemory;
 pub use order::{ordered, renumber};

@@ -1,5 +1,9 @@
 //! How large a net may be.
 
+ghost use Rattle.std.specs.Prelude.{◌≡◌};
+ghost use Rattle.stg_net.specs.declared.limits.TheConstants.Limits.{PART, SPEC};
+ghost use Rattle.stg_net.specs.LimitValues.{part_limits, spec_limits};
+
 /// The most of each kind that a net has, and the most bytes that its text has. `weight` bounds
 /// tokens too.
 #[derive(Clone, Copy, Debug, PartialEq, Eq)]
@@ -39,3 +43,9 @@ impl Limits {
         weight: 1_000_000,
     };
 }
+
+/// The limits are these numbers.
+pub fn law_limits()
+    ensures spec { SPEC ≡ spec_limits }
+    ensures part { PART ≡ part_limits }
+{}
