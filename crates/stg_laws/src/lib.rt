@@ -39,7 +39,7 @@ pub fn law_follows()
     ensures { ContractionFollows }
 {}
 
-/// A secure contraction adds no run, and that of a dummy keeps the name lists.
+/// The secure contraction of such a transition adds no run, and that of a dummy keeps the name lists.
 pub fn law_secure()
     ensures runs { ContractionAddsNoRun }
     ensures names { ContractionKeepsNames }
