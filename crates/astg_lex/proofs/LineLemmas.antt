@@ -5,7 +5,7 @@ use Rattle.astg_lex.proofs.SpanLemmas.{spans_of}
 use Rattle.std.proofs.lemmas.Bool.{cases_Bool}
 use Rattle.astg_lex.specs.Lines.{lines_of, with_byte, line_length, code_length, code_of, has_bad_byte}
 use Rattle.astg_lex.specs.Words.{words_at}
-use Rattle.astg_lex.specs.Lexing.{Lexing, Advances, left, shown, AreSpans}
+use Rattle.astg_lex.specs.Lexing.{Lexing, Advances, text_left, word_views, AreSpans}
 use Rattle.astg_lex.specs.declared.words.Word.{Word}
 
 -- what the first bytes are
@@ -55,27 +55,27 @@ split_code n bytes =
     ∙ append_assoc (code_of (take n bytes)) (drop (code_length (take n bytes)) (take n bytes)) (drop n bytes)
 
 -- a line was read where its bytes are the first of what is left, and one byte more is gone
-pub advances : (old new : Lexing) (n : ℕ) (words : List Word) → 0 < length (left old) → n ≡ line_length (left old) → left new ≡ drop (n + 1) (left old)
-    → has_bad_byte (take n (left old)) ≡ false → shown words ≡ words_at old.at (code_of (take n (left old))) → new.text ≡ old.text → new.number ≡ old.number + 1
+pub advances : (old new : Lexing) (n : ℕ) (words : List Word) → 0 < length (text_left old) → n ≡ line_length (text_left old) → text_left new ≡ drop (n + 1) (text_left old)
+    → has_bad_byte (take n (text_left old)) ≡ false → word_views words ≡ words_at old.at (code_of (take n (text_left old))) → new.text ≡ old.text → new.number ≡ old.number + 1
     → Advances old new new.number words
-advances old new n words some e rest good shows same next = record {
+advances old new n words some e rest good views same next = record {
   numbered = next;
-  first = lines_of-first (left old) n e some ∙ ap (λ k. take k (left old) ∷ lines_of (drop (n + 1) (left old))) e ∙ ap (λ bs. take (line_length (left old)) (left old) ∷ lines_of bs) (sym rest);
-  good = ap (λ k. has_bad_byte (take k (left old))) (sym e) ∙ good;
-  words_are = shows ∙ ap (λ k. words_at old.at (code_of (take k (left old)))) e;
-  spans = subst (λ ws. AreSpans old.text old.at ws) (sym shows) (spans_of old.text old.at (code_of (take n (left old))) (drop (code_length (take n (left old))) (take n (left old)) ++ drop n (left old)) (split_code n (left old)));
+  first = lines_of-first (text_left old) n e some ∙ ap (λ k. take k (text_left old) ∷ lines_of (drop (n + 1) (text_left old))) e ∙ ap (λ bs. take (line_length (text_left old)) (text_left old) ∷ lines_of bs) (sym rest);
+  good = ap (λ k. has_bad_byte (take k (text_left old))) (sym e) ∙ good;
+  words_are = views ∙ ap (λ k. words_at old.at (code_of (take k (text_left old)))) e;
+  spans = subst (λ ws. AreSpans old.text old.at ws) (sym views) (spans_of old.text old.at (code_of (take n (text_left old))) (drop (code_length (take n (text_left old))) (take n (text_left old)) ++ drop n (text_left old)) (split_code n (text_left old)));
   same_text = same;
   next_number = next;
-  shorter = omega (arith, ap length rest, length-drop (n + 1) (left old), some);
+  shorter = omega (arith, ap length rest, length-drop (n + 1) (text_left old), some);
 }
 
 -- the same of bytes that are what is left
-pub advances_over : (old new : Lexing) (bytes : List ℕ) (n : ℕ) (words : List Word) → bytes ≡ left old → left new ≡ drop (n + 1) (left old) → new.text ≡ old.text → new.number ≡ old.number + 1
-    → 0 < length bytes → n ≡ line_length bytes → has_bad_byte (take n bytes) ≡ false → shown words ≡ words_at old.at (code_of (take n bytes))
+pub advances_over : (old new : Lexing) (bytes : List ℕ) (n : ℕ) (words : List Word) → bytes ≡ text_left old → text_left new ≡ drop (n + 1) (text_left old) → new.text ≡ old.text → new.number ≡ old.number + 1
+    → 0 < length bytes → n ≡ line_length bytes → has_bad_byte (take n bytes) ≡ false → word_views words ≡ words_at old.at (code_of (take n bytes))
     → Advances old new new.number words
 advances_over old new bytes n words same rest text next =
-    let P : List ℕ → Type 0 = λ bs. 0 < length bs → n ≡ line_length bs → has_bad_byte (take n bs) ≡ false → shown words ≡ words_at old.at (code_of (take n bs)) → Advances old new new.number words in
-    subst P (sym same) (λ some e good shows. advances old new n words some e rest good shows text next)
+    let P : List ℕ → Type 0 = λ bs. 0 < length bs → n ≡ line_length bs → has_bad_byte (take n bs) ≡ false → word_views words ≡ words_at old.at (code_of (take n bs)) → Advances old new new.number words in
+    subst P (sym same) (λ some e good views. advances old new n words some e rest good views text next)
 
 -- all that is left
 pub take_rest : (at : ℕ) (text : List ℕ) → take (length text - at) (drop at text) ≡ drop at text

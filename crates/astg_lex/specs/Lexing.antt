@@ -21,24 +21,24 @@ abbrev pub start_of : List ℕ → Lexing
 start_of text = record { text = text; at = 0; number = 0 }
 
 -- what is still to be read
-abbrev pub left : Lexing → List ℕ
-left l = drop l.at l.text
+abbrev pub text_left : Lexing → List ℕ
+text_left l = drop l.at l.text
 
 -- the line that comes next
 abbrev pub this_line : Lexing → List ℕ
-this_line l = take (line_length (left l)) (left l)
+this_line l = take (line_length (text_left l)) (text_left l)
 
 -- the lines that are still to come
 abbrev pub lines_left : Lexing → List (List ℕ)
-lines_left l = lines_of (left l)
+lines_left l = lines_of (text_left l)
 
 -- a word as callers see it
-abbrev pub shown_word : Word → WordAt
-shown_word w = record { text = w.text.now; start = w.start; end = w.end }
+abbrev pub word_view : Word → WordAt
+word_view w = record { text = w.text.now; start = w.start; end = w.end }
 
 -- words as callers see them
-abbrev pub shown : List Word → List WordAt
-shown words = map shown_word words
+abbrev pub word_views : List Word → List WordAt
+word_views words = map word_view words
 
 -- the words stand in the text one after the other, each with its own bytes
 abbrev pub AreSpans : List ℕ → ℕ → List WordAt → Type 0
@@ -50,8 +50,8 @@ pub record Advances (old new : Lexing) (number : ℕ) (words : List Word) : Type
   pub numbered : number ≡ old.number + 1
   pub first : lines_left old ≡ this_line old ∷ lines_left new
   pub good : has_bad_byte (this_line old) ≡ false
-  pub words_are : shown words ≡ words_at old.at (code_of (this_line old))
-  pub spans : AreSpans old.text old.at (shown words)
+  pub words_are : word_views words ≡ words_at old.at (code_of (this_line old))
+  pub spans : AreSpans old.text old.at (word_views words)
   pub same_text : new.text ≡ old.text
   pub next_number : new.number ≡ old.number + 1
-  pub shorter : length (left new) < length (left old)
+  pub shorter : length (text_left new) < length (text_left old)

@@ -2,7 +2,7 @@
 
 ghost use Rattle.std.specs.Prelude.{◌≡◌, ◌+◌, ◌++◌, ◌≤◌, ◌<◌, ◌^◌, length, drop, IfOk, OnOk, OnErr};
 ghost use Rattle.astg_lex.specs.Words.{words_at};
-ghost use Rattle.astg_lex.specs.Lexing.{shown};
+ghost use Rattle.astg_lex.specs.Lexing.{word_views};
 
 use crate::measures::{is_blank, word_length};
 use stg_net::{NoMemory, Seq};
@@ -21,7 +21,7 @@ fn push_first<'a>(words: &mut Seq<Word<'a>>, code: &'a [u8], at: u32) -> Result<
     requires short { at + length code.now < 2 ^ 32 }
     ensures least { IfOk result (λ n. 1 ≤ n) }
     ensures most { IfOk result (λ n. n ≤ length code.now) }
-    ensures ok { IfOk result (λ n. shown words.new ++ words_at (at + n) (drop n code.now) ≡ shown words.old ++ words_at at code.now) }
+    ensures ok { IfOk result (λ n. word_views words.new ++ words_at (at + n) (drop n code.now) ≡ word_views words.old ++ words_at at code.now) }
     ensures err { OnErr result (words.new ≡ words.old) }
 {
     if is_blank(code[0]) {
@@ -39,7 +39,7 @@ fn push_first<'a>(words: &mut Seq<Word<'a>>, code: &'a [u8], at: u32) -> Result<
 /// Adds the words of a line's code, which begins at this place in the text.
 pub fn push_words<'a>(words: &mut Seq<Word<'a>>, code: &'a [u8], start: u32) -> Result<(), NoMemory>
     requires { start + length code.now < 2 ^ 32 }
-    ensures { OnOk result (shown words.new ≡ shown words.old ++ words_at start code.now) }
+    ensures { OnOk result (word_views words.new ≡ word_views words.old ++ words_at start code.now) }
 {
     let mut rest = code;
     let mut at = start;

@@ -13,33 +13,33 @@ use Rattle.stg_net.specs.Spec.{SpecLists, IsSpec}
 use Rattle.astg_lex.specs.Lines.{lines_of, line_ends}
 use Rattle.astg_read.specs.declared.rule.Rule.{Rule}
 use Rattle.astg_read.specs.declared.rule.Rule.TheVariants.{BadByte, TooLong}
-use Rattle.astg_read.specs.Built.{AreLimits, IsBuilt}
+use Rattle.astg_read.specs.Construction.{AreLimits, IsBuilt}
 use Rattle.astg_read.specs.Graphs.{PlaceAt}
 use Rattle.astg_read.specs.Header.{same_name}
-use Rattle.astg_read.specs.Known.{Known, GraphLists, known, arcs_in}
+use Rattle.astg_read.specs.Said.{Said, GraphLists, said, arcs_in}
 use Rattle.astg_read.specs.Laws.{StandsForOne}
 use Rattle.astg_read.specs.Nodes.{same_trans}
 use Rattle.astg_read.specs.Reading.{Meaning, Fault, tokens_by, meaning_of, or_fault, reading_after, reading, place_name, IsSpecOf}
 use Rattle.astg_read.specs.Rows.{Row}
 use Rattle.astg_read.specs.Rules.{Line, seen_line, rules, first_broken, broken_by, ends_text}
-use Rattle.astg_read.specs.Sound.{is_trans_in}
-use Rattle.astg_read.specs.Steps.{after_row}
-use Rattle.astg_read.specs.Taking.{IsKept, verdict, taken}
+use Rattle.astg_read.specs.WellFormed.{is_trans_in}
+use Rattle.astg_read.specs.Growth.{after_row}
+use Rattle.astg_read.specs.LineResult.{IsFaultless, verdict, said_up_to}
 use Rattle.astg_read.proofs.ArcOrder.{IsOrderOf, order_of}
 use Rattle.astg_read.proofs.ArcsThere.{IsFit, arcs_fit, arcs_apart, differ_pairs}
-use Rattle.astg_read.proofs.BuiltLemmas.{counts-within, counts-fit, spec-from}
+use Rattle.astg_read.proofs.ConstructionLemmas.{counts-within, counts-fit, spec-from}
 use Rattle.astg_read.proofs.FinishLemmas.{tokens-good}
-use Rattle.astg_read.proofs.Kept.{kept-after, kept-nothing}
+use Rattle.astg_read.proofs.Faultless.{faultless-after, faultless-nothing}
 use Rattle.astg_read.proofs.NumberLemmas.{same_trans-refl}
 use Rattle.astg_read.proofs.OneSpec.{one_spec}
-use Rattle.astg_read.proofs.StepLemmas.{known-after}
-use Rattle.astg_read.proofs.Takings.{broken-head}
+use Rattle.astg_read.proofs.GrowthLemmas.{said-after}
+use Rattle.astg_read.proofs.LineResultLemmas.{broken-head}
 use Rattle.astg_read.proofs.Verdicts.{past, stop}
 
 -- what the lines up to .end say, which keeps to the rules
 record IsSaid (limits : Limits) (m : Meaning) : Type 0 where
-  k : Known
-  kept : IsKept limits k
+  k : Said
+  kept : IsFaultless limits k
   means : meaning_of k ≡ m
 
 same_ok : (m n : Meaning) → ◌≡◌ {A = Result Meaning Fault} (Ok m) (Ok n) → m ≡ n
@@ -48,18 +48,18 @@ same_ok m n e = cc
 module _ (limits : Limits) (last : ℕ) where
   -- a line that breaks no rule has none of its tests true
   none_broken : (before : List Row) (l : Line) → broken_by false limits before l ≡ None
-      → verdict limits (known before) l.words ≡ None
+      → verdict limits (said before) l.words ≡ None
   none_broken before l none =
-      let bad = (broken-head (l.is_bad, BadByte) (drop 1 (rules false limits (known before) (known (before ++ l.words ∷ [])) l)) none).0 in
+      let bad = (broken-head (l.is_bad, BadByte) (drop 1 (rules false limits (said before) (said (before ++ l.words ∷ [])) l)) none).0 in
       let same : l ≡ record { is_bad = false; words = l.words } = λ i. record { is_bad = bad i; words = l.words } in
-      sym (ap (λ w. first_broken (rules false limits (known before) w (record { is_bad = false; words = l.words }))) (known-after before l.words))
-      ∙ sym (ap (λ x. first_broken (rules false limits (known before) (known (before ++ l.words ∷ [])) x)) same)
+      sym (ap (λ w. first_broken (rules false limits (said before) w (record { is_bad = false; words = l.words }))) (said-after before l.words))
+      ∙ sym (ap (λ x. first_broken (rules false limits (said before) (said (before ++ l.words ∷ [])) x)) same)
       ∙ none
 
   -- what comes of the lines after this one, where it breaks no rule
   abbrev later : List Row → Line → List Line → Result Meaning Fault
   later before l ls =
-      cond (ends_text (known before) l.words) (Ok (meaning_of (known before))) (reading_after false limits last (before ++ l.words ∷ []) ls)
+      cond (ends_text (said before) l.words) (Ok (meaning_of (said before))) (reading_after false limits last (before ++ l.words ∷ []) ls)
 
   -- a line that breaks a rule is a fault
   broken_fault : (before : List Row) (l : Line) (ls : List Line) (m : Meaning) (o : Option Rule)
@@ -70,22 +70,22 @@ module _ (limits : Limits) (last : ℕ) where
 
   -- the text ends here, or goes on with the line taken
   said_next : (before : List Row) (l : Line) (ls : List Line) (m : Meaning)
-      → IsKept limits (known before) → reading_after false limits last before (l ∷ ls) ≡ Ok m
-      → (IsKept limits (known (before ++ l.words ∷ [])) → reading_after false limits last (before ++ l.words ∷ []) ls ≡ Ok m → IsSaid limits m) → IsSaid limits m
+      → IsFaultless limits (said before) → reading_after false limits last before (l ∷ ls) ≡ Ok m
+      → (IsFaultless limits (said (before ++ l.words ∷ [])) → reading_after false limits last (before ++ l.words ∷ []) ls ≡ Ok m → IsSaid limits m) → IsSaid limits m
   said_next before l ls m kept e rest =
-      let k = known before in
+      let k = said before in
       let parts = broken_fault before l ls m (broken_by false limits before l) e in
       let after = reading_after false limits last (before ++ l.words ∷ []) ls in
       elim (cases_Bool (ends_text k l.words)) [
         | inl ends ↦ record { k = k; kept = kept; means = same_ok (meaning_of k) m (sym (stop (ends_text k l.words) (Ok (meaning_of k)) after ends) ∙ parts.1) }
         | inr goes ↦
-            let P : Known → Type 0 = λ k. IsKept limits k in
-            let taken_is : taken k l.words ≡ known (before ++ l.words ∷ []) = past (ends_text k l.words) k (after_row k l.words) goes ∙ sym (known-after before l.words) in
-            rest (subst P taken_is (kept-after limits k l.words kept (none_broken before l parts.0))) (sym (past (ends_text k l.words) (Ok (meaning_of k)) after goes) ∙ parts.1)
+            let P : Said → Type 0 = λ k. IsFaultless limits k in
+            let taken_is : said_up_to k l.words ≡ said (before ++ l.words ∷ []) = past (ends_text k l.words) k (after_row k l.words) goes ∙ sym (said-after before l.words) in
+            rest (subst P taken_is (faultless-after limits k l.words kept (none_broken before l parts.0))) (sym (past (ends_text k l.words) (Ok (meaning_of k)) after goes) ∙ parts.1)
       ]
 
   -- what lines without a fault mean is what they say
-  said_after : (before : List Row) (ls : List Line) (m : Meaning) → IsKept limits (known before)
+  said_after : (before : List Row) (ls : List Line) (m : Meaning) → IsFaultless limits (said before)
       → reading_after false limits last before ls ≡ Ok m → IsSaid limits m
   said_after before [] m kept e = absurd (cc)
   said_after before (l ∷ ls) m kept e =
@@ -98,18 +98,18 @@ meaning_said limits text m e = elim (cases_Bool (nat_lt limits.bytes (length tex
   | inl long ↦
       absurd (let f : Err (record { rule = TooLong; line = 0 }) ≡ Ok m = sym (stop (nat_lt limits.bytes (length text)) (Err (record { rule = TooLong; line = 0 })) (reading_after false limits (line_ends text + 1) [] (map seen_line (lines_of text))) long) ∙ e in cc)
   | inr short ↦
-      said_after limits (line_ends text + 1) [] (map seen_line (lines_of text)) m (kept-nothing limits)
+      said_after limits (line_ends text + 1) [] (map seen_line (lines_of text)) m (faultless-nothing limits)
       (sym (past (nat_lt limits.bytes (length text)) (Err (record { rule = TooLong; line = 0 })) (reading_after false limits (line_ends text + 1) [] (map seen_line (lines_of text))) short) ∙ e)
 ]
 
-module _ (limits : Limits) (are_limits : AreLimits limits) (k : Known) (kept : IsKept limits k) where
+module _ (limits : Limits) (are_limits : AreLimits limits) (k : Said) (kept : IsFaultless limits k) where
   abbrev graph : GraphLists
-  graph = record { trans = k.trans; places = k.places; pairs = k.pairs }
+  graph = record { trans = k.trans; places = k.places; text_arcs = k.text_arcs }
 
   -- the arcs in the order of a net
   arc_order : IsOrderOf (arcs_in k)
   arc_order =
-      order_of (arcs_in k) (arcs_apart k.trans k.places k.pairs kept.sound.pairs_there kept.sound.pairs_differ)
+      order_of (arcs_in k) (arcs_apart k.trans k.places k.text_arcs kept.well_formed.text_arcs_there kept.well_formed.text_arcs_differ)
 
   abbrev net : NetLists
   net =
@@ -124,7 +124,7 @@ module _ (limits : Limits) (are_limits : AreLimits limits) (k : Known) (kept : I
   fit : All (IsFit limits.weight (length k.places) (length k.trans)) arc_order.list
   fit =
       All-permutation (IsFit limits.weight (length k.places) (length k.trans)) (arcs_in k) arc_order.list arc_order.moved
-      (arcs_fit k.trans k.places limits.weight are_limits.least k.pairs kept.sound.pairs_there kept.sound.weighed)
+      (arcs_fit k.trans k.places limits.weight are_limits.least k.text_arcs kept.well_formed.text_arcs_there kept.well_formed.weighed)
 
   signals_there : (ts : List TransName) → list_all (is_trans_in (length k.declared.signals)) ts ≡ true → All (λ (t : TransName). t.signal < length k.declared.signals) ts
   signals_there [] h = All-nil (λ (t : TransName). t.signal < length k.declared.signals)
@@ -136,9 +136,9 @@ module _ (limits : Limits) (are_limits : AreLimits limits) (k : Known) (kept : I
   -- these lists are a net
   net_is : IsNet net
   net_is = record {
-    signal_names = λ i j d lt below same. true≢false (sym ((bytes_eq-Decides _ _).1 (sym same)) ∙ differ_pairs same_name k.declared.signals kept.sound.names_differ i j d lt below);
-    trans_names = λ i j d lt below same. true≢false (sym (ap (λ t. same_trans t (get_or k.trans i d)) (sym same) ∙ same_trans-refl (get_or k.trans i d)) ∙ differ_pairs same_trans k.trans kept.sound.trans_differ i j d lt below);
-    trans_signals = signals_there k.trans kept.sound.trans_there;
+    signal_names = λ i j d lt below same. true≢false (sym ((bytes_eq-Decides _ _).1 (sym same)) ∙ differ_pairs same_name k.declared.signals kept.well_formed.names_differ i j d lt below);
+    trans_names = λ i j d lt below same. true≢false (sym (ap (λ t. same_trans t (get_or k.trans i d)) (sym same) ∙ same_trans-refl (get_or k.trans i d)) ∙ differ_pairs same_trans k.trans kept.well_formed.trans_differ i j d lt below);
+    trans_signals = signals_there k.trans kept.well_formed.trans_there;
     arcs = λ i d below. let a = (fit i d below).arc in record { place_there = omega (arith, a.place_there, places_are); trans_there = a.trans_there; positive = a.positive };
     ordered = arc_order.ordered;
     signals_fit = omega (arith, kept.few, are_limits.signals);
@@ -171,7 +171,7 @@ module _ (limits : Limits) (are_limits : AreLimits limits) (k : Known) (kept : I
   spec_is : IsSpec spec
   spec_is =
       spec-from limits limits.weight k.declared.signals graph (tokens_by k.declared k.marking) net (map (place_name k.trans) k.places) are_limits
-      (record { named = kept.sound.named; names_differ = kept.sound.names_differ; trans_differ = kept.sound.trans_differ; trans_there = kept.sound.trans_there; places_there = kept.sound.places_there; weighed = kept.sound.weighed; pairs_there = kept.sound.pairs_there; pairs_differ = kept.sound.pairs_differ })
+      (record { named = kept.well_formed.named; names_differ = kept.well_formed.names_differ; trans_differ = kept.well_formed.trans_differ; trans_there = kept.well_formed.trans_there; places_there = kept.well_formed.places_there; weighed = kept.well_formed.weighed; text_arcs_there = kept.well_formed.text_arcs_there; text_arcs_differ = kept.well_formed.text_arcs_differ })
       net_within built
 
   -- that of what the lines mean

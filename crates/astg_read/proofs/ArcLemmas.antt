@@ -1,4 +1,4 @@
--- The arcs of different pairs have different ends.
+-- The arcs of different text arcs have different ends.
 use Rattle.std.proofs.Common.{◌≡◌, ◌≢◌, ℕ, ◌+◌, ◌<◌, zero, suc, List, [], ◌∷◌, ◌++◌, Bool, true, false, cond, not, ◌||◌, ◌&&◌, nat_eq, nat_le, ◌≤◌, drop, get_or, length, position, unwrap_or, inl, inr, refl, sym, ap, subst, ◌∙◌, Some, None, Option, All, arith}
 use Rattle.std.proofs.lemmas.Bool.{cases_Bool, or_parts, and_parts, and_from, true≢false, false≢true, eqb-true, leb-true}
 use Rattle.std.proofs.lemmas.List.Elements.{All-nil, All-cons, All-append}
@@ -10,14 +10,14 @@ use Rattle.stg_net.specs.declared.trans.TransName.{TransName}
 use Rattle.stg_net.specs.declared.arc.NetArc.{NetArc}
 use Rattle.std.specs.Option.{option_map_or}
 use Rattle.stg_net.specs.Building.{Building, HasEnds}
-use Rattle.astg_read.specs.Built.{IsReady}
+use Rattle.astg_read.specs.Construction.{IsReady}
 use Rattle.astg_read.specs.Targets.{is_weight}
 use Rattle.stg_net.specs.Net.{is_edge}
 use Rattle.stg_net.proofs.Edges.{is_edge-true}
 use Rattle.astg_read.specs.Nodes.{Node, Trans, Place, same_trans, same_node}
-use Rattle.astg_read.specs.Lists.{stands_again}
-use Rattle.astg_read.specs.Graphs.{Pair, PlaceAt, Named, Between, same_pair, same_place, trans_number, place_number, arcs_between, arcs_of, arcs}
-use Rattle.astg_read.specs.Sound.{IsNodeIn, IsBetweenIn, ArePairsIn}
+use Rattle.astg_read.specs.Lists.{has_repeat}
+use Rattle.astg_read.specs.Graphs.{TextArc, PlaceAt, Named, Between, same_text_arc, same_place, trans_number, place_number, node_arcs, arcs_of, arcs}
+use Rattle.astg_read.specs.WellFormed.{IsNodeIn, IsBetweenIn, AreTextArcsIn}
 use Rattle.astg_read.proofs.NumberLemmas.{position_there, same_trans-refl, found_within}
 
 pub trans-eq : (t u : TransName) → same_trans t u ≡ true → t ≡ u
@@ -97,7 +97,7 @@ AllArcs Q [] = Unit {0}
 AllArcs Q (b ∷ bs) = Q b × AllArcs Q bs
 
 -- each arc of two nodes that are there is such
-pub arcs-from : (ts : List TransName) (ps : List PlaceAt) (w : ℕ) (m n : Node) → IsNodeIn ts ps m → IsNodeIn ts ps n → IsBetweenIn ps m n → AllArcs (IsArcFrom ts ps m n) (arcs_between ts ps w m n)
+pub arcs-from : (ts : List TransName) (ps : List PlaceAt) (w : ℕ) (m n : Node) → IsNodeIn ts ps m → IsNodeIn ts ps n → IsBetweenIn ps m n → AllArcs (IsArcFrom ts ps m n) (node_arcs ts ps w m n)
 arcs-from ts ps w (Trans t) (Place p) h k l = (record { arrow = record { place = Named p; trans = t; into = true }; weight = w; is = refl; source = refl; target = refl; inside = (h, k) }, tt)
 arcs-from ts ps w (Place p) (Trans t) h k l = (record { arrow = record { place = Named p; trans = t; into = false }; weight = w; is = refl; source = refl; target = refl; inside = (k, h) }, tt)
 arcs-from ts ps w (Trans t) (Trans u) h k l = (
@@ -123,12 +123,12 @@ all-from : {Q : NetArc → Type 0} (R : NetArc → Type 0) → ((b : NetArc) →
 all-from R f [] h = All-nil R
 all-from R f (b ∷ bs) h = All-cons R b bs (f b h.0) (all-from R f bs h.1)
 
--- an arc of a pair that didn't stand before is fresh among the arcs before
-pub arc-fresh : (ts : List TransName) (ps : List PlaceAt) (p : Pair) (a : NetArc) (done : List Pair) → IsArcFrom ts ps p.source p.target a → ArePairsIn ts ps done → list_any (same_pair p) done ≡ false
+-- an arc of a text arc that didn't stand before is fresh among the arcs before
+pub arc-fresh : (ts : List TransName) (ps : List PlaceAt) (p : TextArc) (a : NetArc) (done : List TextArc) → IsArcFrom ts ps p.source p.target a → AreTextArcsIn ts ps done → list_any (same_text_arc p) done ≡ false
     → All (λ b. HasEnds a b → ⊥) (arcs ts ps done)
 arc-fresh ts ps p a [] f h k = All-nil (λ b. HasEnds a b → ⊥)
 arc-fresh ts ps p a (q ∷ done) f h k =
-    let parts = or_parts (same_pair p q) (list_any (same_pair p) done) k in
+    let parts = or_parts (same_text_arc p q) (list_any (same_text_arc p) done) k in
     All-append (λ b. HasEnds a b → ⊥) (arcs_of ts ps q) (arcs ts ps done)
     (all-from (λ b. HasEnds a b → ⊥) (λ b g. arcs-apart ts ps p.source p.target q.source q.target a b f g parts.0) (arcs_of ts ps q)
     (arcs-from ts ps (unwrap_or q.weight 1) q.source q.target h.0.source_there h.0.target_there h.0.between_there))
@@ -141,9 +141,9 @@ all-other x (t ∷ seen) h =
     let q = or_parts (same_trans x t) (list_any (same_trans x) seen) h in
     All-cons (λ t. t ≢ x) t seen (λ e. true≢false (sym (ap (same_trans x) e ∙ same_trans-refl x) ∙ q.0)) (all-other x seen q.1)
 
-pub next-other : (seen ts : List TransName) (i : ℕ) (d : TransName) → i < length ts → stands_again same_trans seen (drop i ts) ≡ false → All (λ t. t ≢ get_or ts i d) seen
+pub next-other : (seen ts : List TransName) (i : ℕ) (d : TransName) → i < length ts → has_repeat same_trans seen (drop i ts) ≡ false → All (λ t. t ≢ get_or ts i d) seen
 next-other seen [] i d below h = absurd (omega (arith, below))
-next-other seen (t ∷ ts) zero d below h = all-other t seen (or_parts (list_any (same_trans t) seen) (stands_again same_trans (seen ++ t ∷ []) ts) h).0
+next-other seen (t ∷ ts) zero d below h = all-other t seen (or_parts (list_any (same_trans t) seen) (has_repeat same_trans (seen ++ t ∷ []) ts) h).0
 next-other seen (t ∷ ts) (suc i) d below h = next-other seen ts i d (omega (arith, below)) h
 
 -- what an arc has to meet to be added
@@ -152,8 +152,8 @@ pub record Meets (b : Building) (a : NetArc) : Type 0 where
   pub trans : a.trans < length b.lists.trans
   pub fresh : All (λ c. HasEnds a c → ⊥) b.lists.arcs
 
--- what each arc of the next pair meets
-module _ (b : Building) (ts : List TransName) (ps : List PlaceAt) (p : Pair) (r : IsReady b ts ps p) where
+-- what each arc of the next text arc meets
+module _ (b : Building) (ts : List TransName) (ps : List PlaceAt) (p : TextArc) (r : IsReady b ts ps p) where
   pub trans-below : (t : TransName) → list_any (same_trans t) ts ≡ true → trans_number ts t < length b.lists.trans
   trans-below t h = omega (arith, number-below same_trans ts t h, r.trans_are)
 

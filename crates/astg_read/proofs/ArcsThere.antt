@@ -1,4 +1,4 @@
--- The arcs of pairs whose nodes are there are those of a net, and those of pairs that differ have different ends.
+-- The arcs of text arcs whose nodes are there are those of a net, and those of text arcs that differ have different ends.
 use Rattle.std.proofs.Common.{◌≡◌, ℕ, zero, suc, ◌<◌, ◌≤◌, List, [], ◌∷◌, ◌++◌, Bool, true, false, nat_le, length, get_or, position, unwrap_or, Option, Some, None, All, AllPairs, sym, ap, subst, ◌∙◌, append_assoc, append-nil, arith}
 use Rattle.std.specs.List.{list_any, list_all}
 use Rattle.std.specs.Option.{option_map_or}
@@ -10,14 +10,14 @@ use Rattle.stg_net.specs.declared.arc.NetArc.{NetArc}
 use Rattle.stg_net.specs.declared.trans.TransName.{TransName}
 use Rattle.stg_net.specs.Net.{IsArcOf}
 use Rattle.stg_net.proofs.Moved.{AllPairs-append}
-use Rattle.astg_read.specs.Graphs.{Pair, PlaceAt, Named, Between, same_pair, same_place, arcs_between, arcs_of, arcs}
-use Rattle.astg_read.specs.Lists.{stands_again}
+use Rattle.astg_read.specs.Graphs.{TextArc, PlaceAt, Named, Between, same_text_arc, same_place, node_arcs, arcs_of, arcs}
+use Rattle.astg_read.specs.Lists.{has_repeat}
 use Rattle.astg_read.specs.Nodes.{Node, Trans, Place, same_trans}
-use Rattle.astg_read.specs.Sound.{IsNodeIn, IsBetweenIn, IsPairIn, ArePairsIn, is_weighed}
+use Rattle.astg_read.specs.WellFormed.{IsNodeIn, IsBetweenIn, IsTextArcIn, AreTextArcsIn, is_weighed}
 use Rattle.astg_read.specs.Targets.{is_weight}
 use Rattle.astg_read.proofs.ArcLemmas.{number-below, arc-fresh, arcs-from, AllArcs, IsArcFrom}
 use Rattle.astg_read.proofs.ArcOrder.{AreApart}
-use Rattle.astg_read.proofs.GraphSound.{pairs-append}
+use Rattle.astg_read.proofs.WellFormedGraph.{text_arcs-append}
 
 -- the arcs of numbers that are there, with a weight from 1 to most
 pub record IsFit (most : ℕ) (places trans : ℕ) (a : NetArc) : Type 0 where
@@ -41,7 +41,7 @@ module _ (ts : List TransName) (ps : List PlaceAt) (most : ℕ) (least : 1 ≤ m
 
   -- the arcs between two nodes fit
   between_fit : (w : ℕ) → (1 ≤ w) × (w ≤ most) → (m n : Node) → IsNodeIn ts ps m → IsNodeIn ts ps n
-      → IsBetweenIn ps m n → All Fits (arcs_between ts ps w m n)
+      → IsBetweenIn ps m n → All Fits (node_arcs ts ps w m n)
   between_fit w fit (Trans t) (Place p) h k l =
       All-cons Fits _ [] (fits_at (Named p) t true w k h fit) (All-nil Fits)
   between_fit w fit (Place p) (Trans t) h k l =
@@ -56,8 +56,8 @@ module _ (ts : List TransName) (ps : List PlaceAt) (most : ℕ) (least : 1 ≤ m
   weight_fits (Some w) h =
       let q = and_parts (nat_le 1 w) (nat_le w most) h in (leb-true 1 w q.0, leb-true w most q.1)
 
-  -- so do those of pairs
-  pub arcs_fit : (qs : List Pair) → ArePairsIn ts ps qs → list_all (is_weighed most) qs ≡ true
+  -- so do those of text arcs
+  pub arcs_fit : (qs : List TextArc) → AreTextArcsIn ts ps qs → list_all (is_weighed most) qs ≡ true
       → All Fits (arcs ts ps qs)
   arcs_fit [] there weighed = All-nil Fits
   arcs_fit (q ∷ qs) there weighed =
@@ -75,23 +75,23 @@ module _ (ts : List TransName) (ps : List PlaceAt) where
   single a = λ i j d lt below. absurd (omega (arith, lt, below))
 
   -- the arcs between two nodes differ in their ends
-  between_apart : (w : ℕ) (m n : Node) → AllPairs AreApart (arcs_between ts ps w m n)
+  between_apart : (w : ℕ) (m n : Node) → AllPairs AreApart (node_arcs ts ps w m n)
   between_apart w (Trans t) (Place p) = single _
   between_apart w (Place p) (Trans t) = single _
   between_apart w (Trans t) (Trans u) =
       AllPairs-cons AreApart _ (_ ∷ []) (All-cons (AreApart _) _ [] (λ e. true≢false (sym e.same_way)) (All-nil (AreApart _))) (single _)
   between_apart w (Place p) (Place q) = λ i j d lt below. absurd (omega (arith, below))
 
-  -- each of the arcs comes from its pair
-  from_pair : (q : Pair) (bs : List NetArc) → AllArcs (IsArcFrom ts ps q.source q.target) bs
+  -- each of the arcs comes from its text arc
+  from_pair : (q : TextArc) (bs : List NetArc) → AllArcs (IsArcFrom ts ps q.source q.target) bs
       → (k : ℕ) (d : NetArc) → k < length bs → IsArcFrom ts ps q.source q.target (get_or bs k d)
   from_pair q [] all k d below = absurd (omega (arith, below))
   from_pair q (b ∷ bs) all zero d below = all.0
   from_pair q (b ∷ bs) all (suc k) d below = from_pair q bs all.1 k d (omega (arith, below))
 
-  -- one more pair, which differs from those before
-  with_pair : (q : Pair) (done : List Pair) → IsPairIn ts ps q → ArePairsIn ts ps done
-      → list_any (same_pair q) done ≡ false → AllPairs AreApart (arcs ts ps done)
+  -- one more text arc, which differs from those before
+  with_pair : (q : TextArc) (done : List TextArc) → IsTextArcIn ts ps q → AreTextArcsIn ts ps done
+      → list_any (same_text_arc q) done ≡ false → AllPairs AreApart (arcs ts ps done)
       → AllPairs AreApart (arcs ts ps (done ++ q ∷ []))
   with_pair q done there done_there fresh apart =
       let whole : arcs ts ps (done ++ q ∷ []) ≡ arcs ts ps done ++ arcs_of ts ps q = flat_map-append (arcs_of ts ps) done (q ∷ []) ∙ ap (λ xs. arcs ts ps done ++ xs) (append-nil (arcs_of ts ps q)) in
@@ -100,24 +100,24 @@ module _ (ts : List TransName) (ps : List PlaceAt) where
       (AllPairs-append AreApart (arcs ts ps done) (arcs_of ts ps q) apart (between_apart (unwrap_or q.weight 1) q.source q.target)
       (λ i j d i_below j_below. apart_turned (get_or (arcs_of ts ps q) j d) (get_or (arcs ts ps done) i d) (arc-fresh ts ps q (get_or (arcs_of ts ps q) j d) done (from j d j_below) done_there fresh i d i_below)))
 
-  arcs_apart_after : (done qs : List Pair) → ArePairsIn ts ps done → ArePairsIn ts ps qs
-      → stands_again same_pair done qs ≡ false → AllPairs AreApart (arcs ts ps done)
+  arcs_apart_after : (done qs : List TextArc) → AreTextArcsIn ts ps done → AreTextArcsIn ts ps qs
+      → has_repeat same_text_arc done qs ≡ false → AllPairs AreApart (arcs ts ps done)
       → AllPairs AreApart (arcs ts ps (done ++ qs))
   arcs_apart_after done [] done_there there differ apart =
       subst (λ xs. AllPairs AreApart (arcs ts ps xs)) (sym (append-nil done)) apart
   arcs_apart_after done (q ∷ qs) done_there there differ apart =
-      let f = or_parts (list_any (same_pair q) done) (stands_again same_pair (done ++ q ∷ []) qs) differ in
+      let f = or_parts (list_any (same_text_arc q) done) (has_repeat same_text_arc (done ++ q ∷ []) qs) differ in
       subst (λ xs. AllPairs AreApart (arcs ts ps xs)) (append_assoc done (q ∷ []) qs)
-      (arcs_apart_after (done ++ q ∷ []) qs (pairs-append ts ps done (q ∷ []) done_there (there.0, tt)) there.1 f.1 (with_pair q done there.0 done_there f.0 apart))
+      (arcs_apart_after (done ++ q ∷ []) qs (text_arcs-append ts ps done (q ∷ []) done_there (there.0, tt)) there.1 f.1 (with_pair q done there.0 done_there f.0 apart))
 
-  -- arcs of pairs that differ
-  pub arcs_apart : (qs : List Pair) → ArePairsIn ts ps qs → stands_again same_pair [] qs ≡ false
+  -- arcs of text arcs that differ
+  pub arcs_apart : (qs : List TextArc) → AreTextArcsIn ts ps qs → has_repeat same_text_arc [] qs ≡ false
       → AllPairs AreApart (arcs ts ps qs)
   arcs_apart qs there differ =
       arcs_apart_after [] qs tt there differ (λ i j d lt below. absurd (omega (arith, below)))
 
 -- what doesn't stand again differs from all before it
-pub differ_pairs : {X : Type 0} (same : X → X → Bool) (xs : List X) → stands_again same [] xs ≡ false → AllPairs (λ x y. same y x ≡ false) xs
+pub differ_pairs : {X : Type 0} (same : X → X → Bool) (xs : List X) → has_repeat same [] xs ≡ false → AllPairs (λ x y. same y x ≡ false) xs
 differ_pairs {X} same xs once = after [] xs once (λ i j d lt below. absurd (omega (arith, below)))
   where
     none : (x : X) (seen : List X) → list_any (same x) seen ≡ false → All (λ y. same x y ≡ false) seen
@@ -125,10 +125,10 @@ differ_pairs {X} same xs once = after [] xs once (λ i j d lt below. absurd (ome
     none x (y ∷ seen) h =
         let q = or_parts (same x y) (list_any (same x) seen) h in All-cons (λ y. same x y ≡ false) y seen q.0 (none x seen q.1)
 
-    after : (seen xs : List X) → stands_again same seen xs ≡ false → AllPairs (λ x y. same y x ≡ false) seen → AllPairs (λ x y. same y x ≡ false) (seen ++ xs)
+    after : (seen xs : List X) → has_repeat same seen xs ≡ false → AllPairs (λ x y. same y x ≡ false) seen → AllPairs (λ x y. same y x ≡ false) (seen ++ xs)
     after seen [] h all = subst (AllPairs (λ x y. same y x ≡ false)) (sym (append-nil seen)) all
     after seen (x ∷ xs) h all =
-        let q = or_parts (list_any (same x) seen) (stands_again same (seen ++ x ∷ []) xs) h in
+        let q = or_parts (list_any (same x) seen) (has_repeat same (seen ++ x ∷ []) xs) h in
         subst (AllPairs (λ x y. same y x ≡ false)) (append_assoc seen (x ∷ []) xs)
         (after (seen ++ x ∷ []) xs q.1 (AllPairs-append (λ x y. same y x ≡ false) seen (x ∷ []) all (λ i j d lt below. absurd (omega (arith, lt, below)))
         (λ i j d i_below j_below. at_last x seen (none x seen q.0) i j d i_below j_below)))

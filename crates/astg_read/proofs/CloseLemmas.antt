@@ -7,7 +7,7 @@ use Rattle.std.specs.Prelude.{codes}
 use Rattle.std.specs.List.{list_any}
 use Rattle.std.specs.Borrow.{Bor}
 use Rattle.std.proofs.lemmas.List.{length-map}
-use Rattle.astg_read.specs.Shown.{shown_words}
+use Rattle.astg_read.specs.Views.{slices_view}
 use Rattle.astg_read.specs.Rows.{Word, Row}
 use Rattle.astg_read.specs.Header.{Declared}
 use Rattle.astg_read.specs.Graphs.{PlaceAt}
@@ -66,26 +66,26 @@ module _ (most : ℕ) (d : Declared) (places : List PlaceAt) where
 
   -- the same of words that are slices of the text
   opened-words : (words : List (Bor (List ℕ))) (x : Bor (List ℕ)) → 0 < length words → is_opening (get_or words 0 x).now ≡ true
-      → is_bad_marking most d places (shown_words words) ≡ (has_bad_entry most d places (list_any is_closing (shown_words (drop 1 words))) [] (entries_after zero (before_close (shown_words (drop 1 words)))) || nat_lt 0 (length (after_close (shown_words (drop 1 words)))))
+      → is_bad_marking most d places (slices_view words) ≡ (has_bad_entry most d places (list_any is_closing (slices_view (drop 1 words))) [] (entries_after zero (before_close (slices_view (drop 1 words)))) || nat_lt 0 (length (after_close (slices_view (drop 1 words)))))
   opened-words [] x some h = absurd (omega (arith, some))
-  opened-words (w ∷ ws) x some h = opened w.now (shown_words ws) h
+  opened-words (w ∷ ws) x some h = opened w.now (slices_view ws) h
 
-  module _ (words : List (Bor (List ℕ))) (x : Bor (List ℕ)) (some : 0 < length words) (h : is_opening (get_or words 0 x).now ≡ true) (rest : List (Bor (List ℕ))) (e : rest ≡ drop 1 words) (count : ℕ) (k : count ≡ close_length (shown_words rest)) where
+  module _ (words : List (Bor (List ℕ))) (x : Bor (List ℕ)) (some : 0 < length words) (h : is_opening (get_or words 0 x).now ≡ true) (rest : List (Bor (List ℕ))) (e : rest ≡ drop 1 words) (count : ℕ) (k : count ≡ close_length (slices_view rest)) where
     abbrev long : ℕ
     long = length rest
 
-    shown-long : long ≡ length (shown_words rest)
-    shown-long = sym (length-map rest (λ (w : Bor (List ℕ)). w.now))
+    view-long : long ≡ length (slices_view rest)
+    view-long = sym (length-map rest (λ (w : Bor (List ℕ)). w.now))
 
-    by_rest : is_bad_marking most d places (shown_words words) ≡ (has_bad_entry most d places (nat_lt count long) [] (entries_after zero (take count (shown_words rest))) || nat_lt 1 (long - count))
+    by_rest : is_bad_marking most d places (slices_view words) ≡ (has_bad_entry most d places (nat_lt count long) [] (entries_after zero (take count (slices_view rest))) || nat_lt 1 (long - count))
     by_rest = opened-words words x some h
-        ∙ ap (λ ws. has_bad_entry most d places (list_any is_closing (shown_words ws)) [] (entries_after zero (before_close (shown_words ws))) || nat_lt 0 (length (after_close (shown_words ws)))) (sym e)
-        ∙ (λ j. has_bad_entry most d places ((closed-from (shown_words rest) long shown-long ∙ ap (λ n. nat_lt n long) (sym k)) j) [] (entries_after zero ((before-take (shown_words rest) ∙ ap (λ n. take n (shown_words rest)) (sym k)) j)) || (followed-from (shown_words rest) long shown-long ∙ ap (λ n. nat_lt 1 (long - n)) (sym k)) j)
+        ∙ ap (λ ws. has_bad_entry most d places (list_any is_closing (slices_view ws)) [] (entries_after zero (before_close (slices_view ws))) || nat_lt 0 (length (after_close (slices_view ws)))) (sym e)
+        ∙ (λ j. has_bad_entry most d places ((closed-from (slices_view rest) long view-long ∙ ap (λ n. nat_lt n long) (sym k)) j) [] (entries_after zero ((before-take (slices_view rest) ∙ ap (λ n. take n (slices_view rest)) (sym k)) j)) || (followed-from (slices_view rest) long view-long ∙ ap (λ n. nat_lt 1 (long - n)) (sym k)) j)
 
     -- words follow the end
-    pub followed : nat_lt 1 (long - count) ≡ true → is_bad_marking most d places (shown_words words) ≡ true
-    followed t = by_rest ∙ or_right (has_bad_entry most d places (nat_lt count long) [] (entries_after zero (take count (shown_words rest)))) (nat_lt 1 (long - count)) t
+    pub followed : nat_lt 1 (long - count) ≡ true → is_bad_marking most d places (slices_view words) ≡ true
+    followed t = by_rest ∙ or_right (has_bad_entry most d places (nat_lt count long) [] (entries_after zero (take count (slices_view rest)))) (nat_lt 1 (long - count)) t
 
     -- none do
-    pub not-followed : nat_lt 1 (long - count) ≡ false → is_bad_marking most d places (shown_words words) ≡ has_bad_entry most d places (nat_lt count long) [] (entries_after zero (take count (shown_words rest)))
-    not-followed t = by_rest ∙ ap (λ b. has_bad_entry most d places (nat_lt count long) [] (entries_after zero (take count (shown_words rest))) || b) t ∙ or-false (has_bad_entry most d places (nat_lt count long) [] (entries_after zero (take count (shown_words rest))))
+    pub not-followed : nat_lt 1 (long - count) ≡ false → is_bad_marking most d places (slices_view words) ≡ has_bad_entry most d places (nat_lt count long) [] (entries_after zero (take count (slices_view rest)))
+    not-followed t = by_rest ∙ ap (λ b. has_bad_entry most d places (nat_lt count long) [] (entries_after zero (take count (slices_view rest))) || b) t ∙ or-false (has_bad_entry most d places (nat_lt count long) [] (entries_after zero (take count (slices_view rest))))

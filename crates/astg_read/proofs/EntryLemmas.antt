@@ -8,8 +8,8 @@ use Rattle.astg_read.specs.declared.entries.Entry.{Entry as ReadEntry}
 use Rattle.astg_read.specs.Rows.{Word, Row}
 use Rattle.astg_read.specs.Header.{without_dummies}
 use Rattle.astg_read.specs.Markings.{Entry, entry_at, further_words, front_entry, entries_after, named_by, between_both, named_place}
-use Rattle.astg_read.specs.Nodes.{trans_of}
-use Rattle.astg_read.specs.Shown.{shown_words, shown_entry, shown_entries}
+use Rattle.astg_read.specs.Nodes.{trans_of_word}
+use Rattle.astg_read.specs.Views.{slices_view, entry_view, entry_views}
 
 -- words that are passed over
 pub skipped : (n : ℕ) (ws : Row) → entries_after n ws ≡ entries_after zero (drop n ws)
@@ -24,31 +24,31 @@ one-more [] t h = absurd (omega (arith, h))
 one-more (p ∷ ps) t h = omega arith
 
 -- the entry that was cut off in front
-cut-front : (rest : List (Bor (List ℕ))) (e : Entry) (n : ℕ) → 0 < length rest → e ≡ front_entry (shown_words rest) → 1 ≤ length e.place → n ≡ length e.place + length e.tokens
-    → entries_after zero (shown_words rest) ≡ e ∷ entries_after zero (drop n (shown_words rest))
+cut-front : (rest : List (Bor (List ℕ))) (e : Entry) (n : ℕ) → 0 < length rest → e ≡ front_entry (slices_view rest) → 1 ≤ length e.place → n ≡ length e.place + length e.tokens
+    → entries_after zero (slices_view rest) ≡ e ∷ entries_after zero (drop n (slices_view rest))
 cut-front [] e n some s h k = absurd (omega (arith, some))
 cut-front (w ∷ ws) e n some s h k =
-    from_front w.now (shown_words ws) n (k ∙ one-more e.place (length e.tokens) h ∙ ap (λ (x : Entry). suc (further_words x)) s)
-    ∙ ap (λ x. x ∷ entries_after zero (drop n (shown_words (w ∷ ws)))) (sym s)
+    from_front w.now (slices_view ws) n (k ∙ one-more e.place (length e.tokens) h ∙ ap (λ (x : Entry). suc (further_words x)) s)
+    ∙ ap (λ x. x ∷ entries_after zero (drop n (slices_view (w ∷ ws)))) (sym s)
 
 -- what is read and what is left make the same entries after one more
-pub entries-preserved : (old new : List ReadEntry) (e : ReadEntry) (rest : List (Bor (List ℕ))) (n : ℕ) → new ≡ old ++ e ∷ [] → shown_entry e ≡ front_entry (shown_words rest) → 1 ≤ length e.place.now
+pub entries-preserved : (old new : List ReadEntry) (e : ReadEntry) (rest : List (Bor (List ℕ))) (n : ℕ) → new ≡ old ++ e ∷ [] → entry_view e ≡ front_entry (slices_view rest) → 1 ≤ length e.place.now
     → n ≡ length e.place.now + length e.tokens.now → 0 < length rest
-    → shown_entries new ++ entries_after zero (shown_words (take (length rest - n) (drop n rest))) ≡ shown_entries old ++ entries_after zero (shown_words rest)
-entries-preserved old new e rest n pushed shows least count some =
-    let left : shown_words (take (length rest - n) (drop n rest)) ≡ drop n (shown_words rest) =
-    ap shown_words (take_all (length rest - n) (drop n rest) (omega (arith, length-drop n rest))) ∙ sym (drop-map (λ (w : Bor (List ℕ)). w.now) n rest) in
-    let p : length (shown_entry e).place ≡ length e.place.now = length-map e.place.now (λ (w : Bor (List ℕ)). w.now) in
-    let t : length (shown_entry e).tokens ≡ length e.tokens.now = length-map e.tokens.now (λ (w : Bor (List ℕ)). w.now) in
-    let front = cut-front rest (shown_entry e) n some shows (omega (arith, least, p)) (omega (arith, count, p, t)) in
-    ap (λ es. shown_entries es ++ entries_after zero (shown_words (take (length rest - n) (drop n rest)))) pushed
-    ∙ ap (λ ws. shown_entries (old ++ e ∷ []) ++ entries_after zero ws) left
-    ∙ ap (λ es. es ++ entries_after zero (drop n (shown_words rest))) (map-append shown_entry old (e ∷ []))
-    ∙ append_assoc (shown_entries old) (shown_entry e ∷ []) (entries_after zero (drop n (shown_words rest)))
-    ∙ ap (λ es. shown_entries old ++ es) (sym front)
+    → entry_views new ++ entries_after zero (slices_view (take (length rest - n) (drop n rest))) ≡ entry_views old ++ entries_after zero (slices_view rest)
+entries-preserved old new e rest n pushed views least count some =
+    let left : slices_view (take (length rest - n) (drop n rest)) ≡ drop n (slices_view rest) =
+    ap slices_view (take_all (length rest - n) (drop n rest) (omega (arith, length-drop n rest))) ∙ sym (drop-map (λ (w : Bor (List ℕ)). w.now) n rest) in
+    let p : length (entry_view e).place ≡ length e.place.now = length-map e.place.now (λ (w : Bor (List ℕ)). w.now) in
+    let t : length (entry_view e).tokens ≡ length e.tokens.now = length-map e.tokens.now (λ (w : Bor (List ℕ)). w.now) in
+    let front = cut-front rest (entry_view e) n some views (omega (arith, least, p)) (omega (arith, count, p, t)) in
+    ap (λ es. entry_views es ++ entries_after zero (slices_view (take (length rest - n) (drop n rest)))) pushed
+    ∙ ap (λ ws. entry_views (old ++ e ∷ []) ++ entries_after zero ws) left
+    ∙ ap (λ es. es ++ entries_after zero (drop n (slices_view rest))) (map-append entry_view old (e ∷ []))
+    ∙ append_assoc (entry_views old) (entry_view e ∷ []) (entries_after zero (drop n (slices_view rest)))
+    ∙ ap (λ es. entry_views old ++ es) (sym front)
 
 -- words of another number name no place
-pub named-none : (signals : List Signal) (ws : List (Bor (List ℕ))) → (length ws ≡ 1 → ⊥) → (length ws ≡ 5 → ⊥) → None ≡ named_place (without_dummies signals) (shown_words ws)
+pub named-none : (signals : List Signal) (ws : List (Bor (List ℕ))) → (length ws ≡ 1 → ⊥) → (length ws ≡ 5 → ⊥) → None ≡ named_place (without_dummies signals) (slices_view ws)
 named-none signals [] h k = refl
 named-none signals (a ∷ []) h k = absurd (h refl)
 named-none signals (a ∷ b ∷ []) h k = refl
@@ -58,14 +58,14 @@ named-none signals (a ∷ b ∷ c ∷ d ∷ e ∷ []) h k = absurd (k refl)
 named-none signals (a ∷ b ∷ c ∷ d ∷ e ∷ f ∷ ws) h k = refl
 
 -- one word
-pub named-one : (signals : List Signal) (ws : List (Bor (List ℕ))) (x : Bor (List ℕ)) → length ws ≡ 1 → named_by (get_or ws 0 x).now ≡ named_place (without_dummies signals) (shown_words ws)
+pub named-one : (signals : List Signal) (ws : List (Bor (List ℕ))) (x : Bor (List ℕ)) → length ws ≡ 1 → named_by (get_or ws 0 x).now ≡ named_place (without_dummies signals) (slices_view ws)
 named-one signals [] x h = absurd (omega (arith, h))
 named-one signals (a ∷ []) x h = refl
 named-one signals (a ∷ b ∷ ws) x h = absurd (omega (arith, h))
 
 -- five words
 pub named-five : (signals : List Signal) (ws : List (Bor (List ℕ))) (x : Bor (List ℕ)) → length ws ≡ 5
-    → between_both (trans_of (without_dummies signals) (get_or ws 1 x).now) (trans_of (without_dummies signals) (get_or ws 3 x).now) ≡ named_place (without_dummies signals) (shown_words ws)
+    → between_both (trans_of_word (without_dummies signals) (get_or ws 1 x).now) (trans_of_word (without_dummies signals) (get_or ws 3 x).now) ≡ named_place (without_dummies signals) (slices_view ws)
 named-five signals [] x h = absurd (omega (arith, h))
 named-five signals (a ∷ []) x h = absurd (omega (arith, h))
 named-five signals (a ∷ b ∷ []) x h = absurd (omega (arith, h))

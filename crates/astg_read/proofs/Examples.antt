@@ -40,17 +40,17 @@ heavy = refl
 heavy_between : is_fault rules.BadWeight 4 (reading false spec (codes ".inputs a\n.outputs x\n.graph\na+ x+(2)\n.marking { }\n.end\n"))
 heavy_between = refl
 
-mark_p : is_fault rules.BadMarking 5 (reading false spec (codes ".inputs a\n.outputs x\n.graph\na+ x+\n.marking { p }\n.end\n"))
-mark_p = refl
+marking_p : is_fault rules.BadMarking 5 (reading false spec (codes ".inputs a\n.outputs x\n.graph\na+ x+\n.marking { p }\n.end\n"))
+marking_p = refl
 
-mark_many : is_fault rules.BadMarking 5 (reading false spec (codes ".inputs a\n.outputs x\n.graph\na+ x+\n.marking { <a+,x+>=1001 }\n.end\n"))
-mark_many = refl
+marking_many : is_fault rules.BadMarking 5 (reading false spec (codes ".inputs a\n.outputs x\n.graph\na+ x+\n.marking { <a+,x+>=1001 }\n.end\n"))
+marking_many = refl
 
-mark_twice : is_fault rules.BadMarking 5 (reading false spec (codes ".inputs a\n.outputs x\n.graph\na+ x+\n.marking { <a+,x+> <a+/0,x+> }\n.end\n"))
-mark_twice = refl
+marking_twice : is_fault rules.BadMarking 5 (reading false spec (codes ".inputs a\n.outputs x\n.graph\na+ x+\n.marking { <a+,x+> <a+/0,x+> }\n.end\n"))
+marking_twice = refl
 
-mark_open : is_fault rules.BadMarking 6 (reading false spec (codes ".inputs a\n.outputs x\n.graph\na+ x+\n.marking {\n.end\n"))
-mark_open = refl
+marking_open : is_fault rules.BadMarking 6 (reading false spec (codes ".inputs a\n.outputs x\n.graph\na+ x+\n.marking {\n.end\n"))
+marking_open = refl
 
 only_end : is_fault rules.NoGraph 2 (reading false spec (codes ".inputs a\n.end\n"))
 only_end = refl
@@ -70,8 +70,8 @@ weights = tt
 zero_index : is_good (reading false spec (codes ".inputs a\n.outputs x\n.graph\na+/0 x+\n.marking { }\n.end\n"))
 zero_index = tt
 
-mark_lines : is_good (reading false spec (codes ".inputs a\n.outputs x\n.graph\na+ x+\n.marking {\n<a+ , x+> = 2\n}\n.end\n"))
-mark_lines = tt
+marking_lines : is_good (reading false spec (codes ".inputs a\n.outputs x\n.graph\na+ x+\n.marking {\n<a+ , x+> = 2\n}\n.end\n"))
+marking_lines = tt
 
 no_marking : is_good (reading false spec (codes ".inputs a\n.outputs x\n.graph\na+ x+\n.end\n"))
 no_marking = tt
@@ -133,53 +133,53 @@ inside_end = refl
 inside_bad : is_fault rules.BadByte 6 (reading false spec (codes ".inputs a\n.outputs x\n.graph\na+ x+\n.marking {\n" ++ (2 ∷ []) ++ codes "\n}\n.end\n"))
 inside_bad = refl
 
-mark_signal : is_fault rules.BadMarking 5 (reading false spec (codes ".inputs a\n.outputs x\n.graph\na+ x+\n.marking { a }\n.end\n"))
-mark_signal = refl
+marking_signal : is_fault rules.BadMarking 5 (reading false spec (codes ".inputs a\n.outputs x\n.graph\na+ x+\n.marking { a }\n.end\n"))
+marking_signal = refl
 
-mark_unknown : is_fault rules.BadMarking 5 (reading false spec (codes ".inputs a\n.outputs x\n.graph\na+ x+\n.marking { <zz+,x+> }\n.end\n"))
-mark_unknown = refl
+marking_unknown : is_fault rules.BadMarking 5 (reading false spec (codes ".inputs a\n.outputs x\n.graph\na+ x+\n.marking { <zz+,x+> }\n.end\n"))
+marking_unknown = refl
 
-mark_split : is_good (reading false spec (codes ".inputs a\n.outputs x\n.graph\na+ x+\n.marking\n{\n<\na+\n,\nx+\n>\n=\n3\n}\n.end\n"))
-mark_split = tt
+marking_split : is_good (reading false spec (codes ".inputs a\n.outputs x\n.graph\na+ x+\n.marking\n{\n<\na+\n,\nx+\n>\n=\n3\n}\n.end\n"))
+marking_split = tt
 
-mark_zero : is_good (reading false spec (codes ".inputs a\n.outputs x\n.graph\na+ x+\n.marking { <a+,x+>=0 }\n.end\n"))
-mark_zero = tt
+marking_zero : is_good (reading false spec (codes ".inputs a\n.outputs x\n.graph\na+ x+\n.marking { <a+,x+>=0 }\n.end\n"))
+marking_zero = tt
 
-mark_no_number : is_fault rules.BadMarking 5 (reading false spec (codes ".inputs a\n.outputs x\n.graph\na+ x+\n.marking { <a+,x+>= }\n.end\n"))
-mark_no_number = refl
+marking_no_number : is_fault rules.BadMarking 5 (reading false spec (codes ".inputs a\n.outputs x\n.graph\na+ x+\n.marking { <a+,x+>= }\n.end\n"))
+marking_no_number = refl
 
-mark_eq_close : is_fault rules.BadMarking 6 (reading false spec (codes ".inputs a\n.outputs x\n.graph\na+ x+\n.marking { <a+,x+>=\n}\n.end\n"))
-mark_eq_close = refl
+marking_eq_close : is_fault rules.BadMarking 6 (reading false spec (codes ".inputs a\n.outputs x\n.graph\na+ x+\n.marking { <a+,x+>=\n}\n.end\n"))
+marking_eq_close = refl
 
-mark_rev : is_fault rules.BadMarking 5 (reading false spec (codes ".inputs a\n.outputs x\n.graph\na+ x+\n.marking { <x+,a+> }\n.end\n"))
-mark_rev = refl
+marking_rev : is_fault rules.BadMarking 5 (reading false spec (codes ".inputs a\n.outputs x\n.graph\na+ x+\n.marking { <x+,a+> }\n.end\n"))
+marking_rev = refl
 
-mark_incomplete : is_fault rules.BadMarking 5 (reading false spec (codes ".inputs a\n.outputs x\n.graph\na+ x+\n.marking { <a+,x+ }\n.end\n"))
-mark_incomplete = refl
+marking_incomplete : is_fault rules.BadMarking 5 (reading false spec (codes ".inputs a\n.outputs x\n.graph\na+ x+\n.marking { <a+,x+ }\n.end\n"))
+marking_incomplete = refl
 
-mark_no_brace : is_fault rules.BadMarking 5 (reading false spec (codes ".inputs a\n.outputs x\n.graph\na+ x+\n.marking p { }\n.end\n"))
-mark_no_brace = refl
+marking_no_brace : is_fault rules.BadMarking 5 (reading false spec (codes ".inputs a\n.outputs x\n.graph\na+ x+\n.marking p { }\n.end\n"))
+marking_no_brace = refl
 
-mark_empty_word : is_good (reading false spec (codes ".inputs a\n.outputs x\n.graph\na+ x+\n.marking\n\n# c\n{ }\n.end\n"))
-mark_empty_word = tt
+marking_empty_word : is_good (reading false spec (codes ".inputs a\n.outputs x\n.graph\na+ x+\n.marking\n\n# c\n{ }\n.end\n"))
+marking_empty_word = tt
 
-mark_bare_eq : is_fault rules.BadMarking 5 (reading false spec (codes ".inputs a\n.outputs x\n.graph\na+ x+\n.marking { = 3 }\n.end\n"))
-mark_bare_eq = refl
+marking_lone_eq : is_fault rules.BadMarking 5 (reading false spec (codes ".inputs a\n.outputs x\n.graph\na+ x+\n.marking { = 3 }\n.end\n"))
+marking_lone_eq = refl
 
-mark_eq_twice : is_fault rules.BadMarking 5 (reading false spec (codes ".inputs a\n.outputs x\n.graph\na+ x+\n.marking { <a+,x+>=1=1 }\n.end\n"))
-mark_eq_twice = refl
+marking_eq_twice : is_fault rules.BadMarking 5 (reading false spec (codes ".inputs a\n.outputs x\n.graph\na+ x+\n.marking { <a+,x+>=1=1 }\n.end\n"))
+marking_eq_twice = refl
 
-mark_num10 : is_fault rules.BadMarking 5 (reading false spec (codes ".inputs a\n.outputs x\n.graph\na+ x+\n.marking { <a+,x+>=0000000001 }\n.end\n"))
-mark_num10 = refl
+marking_num10 : is_fault rules.BadMarking 5 (reading false spec (codes ".inputs a\n.outputs x\n.graph\na+ x+\n.marking { <a+,x+>=0000000001 }\n.end\n"))
+marking_num10 = refl
 
-mark_num9 : is_good (reading false spec (codes ".inputs a\n.outputs x\n.graph\na+ x+\n.marking { <a+,x+>=000000001 }\n.end\n"))
-mark_num9 = tt
+marking_num9 : is_good (reading false spec (codes ".inputs a\n.outputs x\n.graph\na+ x+\n.marking { <a+,x+>=000000001 }\n.end\n"))
+marking_num9 = tt
 
-mark_open_brace : is_fault rules.BadMarking 5 (reading false spec (codes ".inputs a\n.outputs x\n.graph\na+ x+\n.marking { { }\n.end\n"))
-mark_open_brace = refl
+marking_open_brace : is_fault rules.BadMarking 5 (reading false spec (codes ".inputs a\n.outputs x\n.graph\na+ x+\n.marking { { }\n.end\n"))
+marking_open_brace = refl
 
-mark_paren : is_fault rules.BadMarking 5 (reading false spec (codes ".inputs a\n.outputs x\n.graph\na+ x+\n.marking { ( }\n.end\n"))
-mark_paren = refl
+marking_paren : is_fault rules.BadMarking 5 (reading false spec (codes ".inputs a\n.outputs x\n.graph\na+ x+\n.marking { ( }\n.end\n"))
+marking_paren = refl
 
 group_first : is_fault rules.BadName 4 (reading false spec (codes ".inputs a\n.outputs x\n.graph\n( 2 )\n.marking { }\n.end\n"))
 group_first = refl

@@ -2,34 +2,34 @@
 use Rattle.std.proofs.Common.{◌≡◌, ℕ, ◌≤◌, map, Some, None, Option, ◌∙◌, arith}
 use Rattle.stg_net.specs.declared.limits.Limits.{Limits}
 use Rattle.stg_net.specs.Spec.{SpecLists}
-use Rattle.astg_read.specs.Built.{IsBuilt, known_by}
+use Rattle.astg_read.specs.Construction.{IsBuilt, said_by}
 use Rattle.astg_read.specs.Graphs.{PlaceAt}
 use Rattle.astg_read.specs.Header.{without_dummies}
-use Rattle.astg_read.specs.Known.{Known}
+use Rattle.astg_read.specs.Said.{Said}
 use Rattle.astg_read.specs.Markings.{entries_of}
 use Rattle.astg_read.specs.Reading.{IsSpecOf, meaning_of, tokens_by}
 use Rattle.astg_read.specs.Rows.{Row}
-use Rattle.astg_read.specs.Taking.{IsKept, IsGood}
+use Rattle.astg_read.specs.LineResult.{IsFaultless, IsGood}
 use Rattle.astg_read.specs.declared.reader.Reader.{Reader}
-use Rattle.astg_read.specs.Taking.{known_of}
-use Rattle.astg_read.proofs.MarkLemmas.{tokens-within}
-use Rattle.astg_read.proofs.Kept.{good-some}
+use Rattle.astg_read.specs.LineResult.{said_of}
+use Rattle.astg_read.proofs.PlaceTokensLemmas.{tokens-within}
+use Rattle.astg_read.proofs.Faultless.{good-some}
 use Rattle.std.proofs.lemmas.Bool.{or_parts}
 use Rattle.std.proofs.Common.{not, ◌||◌, [], length, nat_lt}
 use Rattle.std.specs.List.{list_any}
 use Rattle.astg_read.specs.Markings.{has_bad_entry, is_closing, starts_marking, after_close}
 
 -- signals and graph keep what the reader keeps
-pub kept-by : (l : Limits) (r : Reader) → IsKept l (known_of r) → IsKept l (known_by r.signals r.graph)
-kept-by l r k = record {
+pub faultless-by : (l : Limits) (r : Reader) → IsFaultless l (said_of r) → IsFaultless l (said_by r.signals r.graph)
+faultless-by l r k = record {
   few = k.few;
   counts = k.counts;
   good = tt;
-  sound = record { named = k.sound.named; names_differ = k.sound.names_differ; trans_differ = k.sound.trans_differ; trans_there = k.sound.trans_there; places_there = k.sound.places_there; weighed = k.sound.weighed; pairs_there = k.sound.pairs_there; pairs_differ = k.sound.pairs_differ };
+  well_formed = record { named = k.well_formed.named; names_differ = k.well_formed.names_differ; trans_differ = k.well_formed.trans_differ; trans_there = k.well_formed.trans_there; places_there = k.well_formed.places_there; weighed = k.well_formed.weighed; text_arcs_there = k.well_formed.text_arcs_there; text_arcs_differ = k.well_formed.text_arcs_differ };
 }
 
 -- the tokens of a good marking are within the limit
-pub tokens-good : (most : ℕ) (k : Known) (p : PlaceAt) (m : Option Row) → k.marking ≡ m → IsGood most k → tokens_by k.declared m p ≤ most
+pub tokens-good : (most : ℕ) (k : Said) (p : PlaceAt) (m : Option Row) → k.marking ≡ m → IsGood most k → tokens_by k.declared m p ≤ most
 tokens-good most k p None e g = omega arith
 tokens-good most k p (Some words) e g =
     let s = good-some most k words e g in
@@ -38,7 +38,7 @@ tokens-good most k p (Some words) e g =
     tokens-within most k.declared k.places (list_any is_closing words) [] (entries_of words) p b.1
 
 -- what was built is what the lines stand for
-pub spec-of : (r : Reader) (f : PlaceAt → ℕ) (s : SpecLists) → ((p : PlaceAt) → f p ≡ tokens_by (without_dummies r.signals) r.marking p) → IsBuilt r.signals r.graph (map f r.graph.places) s → IsSpecOf (meaning_of (known_of r)) s
+pub spec-of : (r : Reader) (f : PlaceAt → ℕ) (s : SpecLists) → ((p : PlaceAt) → f p ≡ tokens_by (without_dummies r.signals) r.marking p) → IsBuilt r.signals r.graph (map f r.graph.places) s → IsSpecOf (meaning_of (said_of r)) s
 spec-of r f s same b = record {
   signals = b.signals_are;
   trans = b.trans_are;

@@ -13,8 +13,8 @@ use Rattle.stg_net.specs.Names.{is_digit, is_name}
 use Rattle.astg_read.specs.Rows.{Word}
 use Rattle.astg_read.specs.Names.{WordOfTrans, value_after, is_number, number, index_of, change_of, edge_of, read_trans_word}
 use Rattle.astg_read.specs.Header.{Declared, is_dummy}
-use Rattle.astg_read.specs.Nodes.{name_in, dummy_word, trans_word, with_number, trans_of}
-use Rattle.astg_read.specs.Sound.{is_trans_in}
+use Rattle.astg_read.specs.Nodes.{front_name, dummy_word, trans_word_parts, with_number, trans_of_word}
+use Rattle.astg_read.specs.WellFormed.{is_trans_in}
 
 -- a bound times ten for each digit
 abbrev scaled : ℕ → Word → ℕ
@@ -87,15 +87,15 @@ change-small name [] = tt
 change-small name (c ∷ cs) = with_change name (edge_of c) (index_of cs) (index-small cs)
 
 read-small : (w : Word) → IsSmall (read_trans_word w)
-read-small w = by_name (is_name (name_in w)) refl
+read-small w = by_name (is_name (front_name w)) refl
   where
-    by_name : (b : Bool) → is_name (name_in w) ≡ b → IsSmall (read_trans_word w)
-    by_name true h = subst IsSmall (sym (ap (λ b. cond b (option_map (λ (c : Edge × ℕ). record { name = name_in w; edge = c.0; index = c.1 }) (change_of (drop (length (name_in w)) w))) None) h)) (change-small (name_in w) (drop (length (name_in w)) w))
-    by_name false h = subst IsSmall (sym (ap (λ b. cond b (option_map (λ (c : Edge × ℕ). record { name = name_in w; edge = c.0; index = c.1 }) (change_of (drop (length (name_in w)) w))) None) h)) tt
+    by_name : (b : Bool) → is_name (front_name w) ≡ b → IsSmall (read_trans_word w)
+    by_name true h = subst IsSmall (sym (ap (λ b. cond b (option_map (λ (c : Edge × ℕ). record { name = front_name w; edge = c.0; index = c.1 }) (change_of (drop (length (front_name w)) w))) None) h)) (change-small (front_name w) (drop (length (front_name w)) w))
+    by_name false h = subst IsSmall (sym (ap (λ b. cond b (option_map (λ (c : Edge × ℕ). record { name = front_name w; edge = c.0; index = c.1 }) (change_of (drop (length (front_name w)) w))) None) h)) tt
 
-trans_word-small : (d : Declared) (w : Word) → IsSmall (trans_word d w)
-trans_word-small d w = elim (cases_Bool (is_dummy d (name_in w))) [
-  | inl h ↦ subst IsSmall (sym (ap (λ b. cond b (dummy_word w) (read_trans_word w)) h)) (with_index (name_in w) Toggle (index_of (drop (length (name_in w)) w)) (index-small (drop (length (name_in w)) w)))
+trans_word_parts-small : (d : Declared) (w : Word) → IsSmall (trans_word_parts d w)
+trans_word_parts-small d w = elim (cases_Bool (is_dummy d (front_name w))) [
+  | inl h ↦ subst IsSmall (sym (ap (λ b. cond b (dummy_word w) (read_trans_word w)) h)) (with_index (front_name w) Toggle (index_of (drop (length (front_name w)) w)) (index-small (drop (length (front_name w)) w)))
   | inr h ↦ subst IsSmall (sym (ap (λ b. cond b (dummy_word w) (read_trans_word w)) h)) (read-small w)
 ]
 
@@ -113,5 +113,5 @@ word-good signals None h = tt
 word-good signals (Some p) h = numbered-good signals p (number_of p.name signals) refl h
 
 -- the transition for which a word stands
-pub trans_of-good : (d : Declared) (w : Word) → IsGoodTrans (length d.signals) (trans_of d w)
-trans_of-good d w = word-good d.signals (trans_word d w) (trans_word-small d w)
+pub trans_of_word-good : (d : Declared) (w : Word) → IsGoodTrans (length d.signals) (trans_of_word d w)
+trans_of_word-good d w = word-good d.signals (trans_word_parts d w) (trans_word_parts-small d w)

@@ -8,7 +8,7 @@ use Rattle.indexmap.specs.IndexMap.{IndexMap, insert_entry}
 use Rattle.indexmap.specs.IndexSet.{insert_key}
 use Rattle.indexmap.proofs.CallerLemmas.{insert_entry-new}
 use Rattle.indexmap.proofs.MapLemmas.{Missing-position}
-use Rattle.astg_read.specs.Lists.{added}
+use Rattle.astg_read.specs.Lists.{with_new}
 
 -- a test of keys finds what the same test of the things seen finds
 module _ {K X : Type 0} (test : K → Bool) (same : X → Bool) (seen : K → X) (agree : (k : K) → test k ≡ same (seen k)) where
@@ -44,16 +44,16 @@ entries-new eq seen m k v none =
     ∙ map-append seen m.entries ((k, v) ∷ [])
 
 -- an inserted key goes last where it isn't there
-pub keys-added : {K X : Type 0} (eq : K → K → Bool) (same : X → X → Bool) (seen : K → X) (k : K) → ((y : K) → eq k y ≡ same (seen k) (seen y))
-    → (ks : List K) → map seen (insert_key eq ks k) ≡ added same (map seen ks) (seen k)
-keys-added eq same seen k agree ks = elim (cases_Bool (list_any (eq k) ks)) [
+pub keys-with_new : {K X : Type 0} (eq : K → K → Bool) (same : X → X → Bool) (seen : K → X) (k : K) → ((y : K) → eq k y ≡ same (seen k) (seen y))
+    → (ks : List K) → map seen (insert_key eq ks k) ≡ with_new same (map seen ks) (seen k)
+keys-with_new eq same seen k agree ks = elim (cases_Bool (list_any (eq k) ks)) [
   | inl h ↦ ap (λ b. map seen (cond b ks (ks ++ k ∷ []))) h ∙ sym (ap (λ b. cond b (map seen ks) (map seen ks ++ seen k ∷ [])) (sym (any-seen (eq k) (same (seen k)) seen agree ks) ∙ h))
   | inr h ↦ ap (λ b. map seen (cond b ks (ks ++ k ∷ []))) h ∙ map-append seen ks (k ∷ []) ∙ sym (ap (λ b. cond b (map seen ks) (map seen ks ++ seen k ∷ [])) (sym (any-seen (eq k) (same (seen k)) seen agree ks) ∙ h))
 ]
 
 -- one that is found stays where it is, and one that isn't there goes last
-pub added-found : {X : Type 0} (same : X → X → Bool) (xs : List X) (x : X) → list_any (same x) xs ≡ true → xs ≡ added same xs x
-added-found same xs x h = sym (ap (λ b. cond b xs (xs ++ x ∷ [])) h)
+pub with_new-found : {X : Type 0} (same : X → X → Bool) (xs : List X) (x : X) → list_any (same x) xs ≡ true → xs ≡ with_new same xs x
+with_new-found same xs x h = sym (ap (λ b. cond b xs (xs ++ x ∷ [])) h)
 
-pub added-new : {X : Type 0} (same : X → X → Bool) (xs : List X) (x : X) → list_any (same x) xs ≡ false → xs ++ x ∷ [] ≡ added same xs x
-added-new same xs x h = sym (ap (λ b. cond b xs (xs ++ x ∷ [])) h)
+pub with_new-new : {X : Type 0} (same : X → X → Bool) (xs : List X) (x : X) → list_any (same x) xs ≡ false → xs ++ x ∷ [] ≡ with_new same xs x
+with_new-new same xs x h = sym (ap (λ b. cond b xs (xs ++ x ∷ [])) h)

@@ -3,7 +3,7 @@ mod Examples
 mod RawExamples
 mod LimitExamples
 mod AcceptedExamples
-pub mod StepLemmas
+pub mod GrowthLemmas
 pub mod NumberLemmas
 pub mod Keyed
 pub mod SignalLemmas
@@ -14,18 +14,18 @@ pub mod Verdicts
 pub mod NodeLemmas
 pub mod EntryLemmas
 pub mod CloseLemmas
-pub mod SettledLemmas
-pub mod Takings
-pub mod Kept
+pub mod MarkingCheckLemmas
+pub mod LineResultLemmas
+pub mod Faultless
 pub mod ReadLemmas
-pub mod Agains
+pub mod Repeats
 pub mod IndexLemmas
-pub mod GraphSound
-pub mod Sounds
+pub mod WellFormedGraph
+pub mod WellFormedLemmas
 pub mod ArcLemmas
 pub mod ReadyLemmas
-pub mod MarkLemmas
-pub mod BuiltLemmas
+pub mod PlaceTokensLemmas
+pub mod ConstructionLemmas
 pub mod FinishLemmas
 pub mod OneSpec
 pub mod ArcOrder

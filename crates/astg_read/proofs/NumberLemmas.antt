@@ -6,7 +6,7 @@ use Rattle.stg_net.specs.declared.trans.Edge.TheVariants.{Rise, Fall, Toggle}
 use Rattle.std.proofs.lemmas.Bool.{cases_Bool, lt-ltb, false≢true, or_left, or_parts, and_from, le-ltb}
 use Rattle.std.specs.List.{list_any, position_or_len}
 use Rattle.stg_net.specs.declared.trans.TransName.{TransName}
-use Rattle.astg_read.specs.Lists.{added, firsts}
+use Rattle.astg_read.specs.Lists.{with_new, firsts}
 use Rattle.stg_net.specs.Net.{is_edge}
 use Rattle.stg_net.proofs.Edges.{is_edge-itself}
 use Rattle.astg_read.specs.Nodes.{same_trans}
@@ -62,21 +62,21 @@ position-within f xs n h =
     some_same a b e = cc
 
 -- what was added comes last
-added-more : {X : Type 0} (same : X → X → Bool) (seen : List X) (x : X) → added same seen x ≡ seen ++ cond (list_any (same x) seen) [] (x ∷ [])
-added-more same seen x = elim (cases_Bool (list_any (same x) seen)) [
+with_new-more : {X : Type 0} (same : X → X → Bool) (seen : List X) (x : X) → with_new same seen x ≡ seen ++ cond (list_any (same x) seen) [] (x ∷ [])
+with_new-more same seen x = elim (cases_Bool (list_any (same x) seen)) [
   | inl k ↦ ap (λ b. cond b seen (seen ++ x ∷ [])) k ∙ sym (append-nil seen) ∙ sym (ap (λ b. seen ++ cond b [] (x ∷ [])) k)
   | inr k ↦ ap (λ b. cond b seen (seen ++ x ∷ [])) k ∙ sym (ap (λ b. seen ++ cond b [] (x ∷ [])) k)
 ]
 
 abbrev newer : {X : Type 0} → (X → X → Bool) → List X → List X → List X
 newer same seen [] = []
-newer same seen (x ∷ xs) = cond (list_any (same x) seen) [] (x ∷ []) ++ newer same (added same seen x) xs
+newer same seen (x ∷ xs) = cond (list_any (same x) seen) [] (x ∷ []) ++ newer same (with_new same seen x) xs
 
 pub firsts-more : {X : Type 0} (same : X → X → Bool) (seen xs : List X) → firsts same seen xs ≡ seen ++ newer same seen xs
 firsts-more same seen [] = sym (append-nil seen)
-firsts-more same seen (x ∷ xs) = firsts-more same (added same seen x) xs
-    ∙ ap (λ ys. ys ++ newer same (added same seen x) xs) (added-more same seen x)
-    ∙ append_assoc seen (cond (list_any (same x) seen) [] (x ∷ [])) (newer same (added same seen x) xs)
+firsts-more same seen (x ∷ xs) = firsts-more same (with_new same seen x) xs
+    ∙ ap (λ ys. ys ++ newer same (with_new same seen x) xs) (with_new-more same seen x)
+    ∙ append_assoc seen (cond (list_any (same x) seen) [] (x ∷ [])) (newer same (with_new same seen x) xs)
 
 -- what is there stays there
 pub any-firsts : {X : Type 0} (same : X → X → Bool) (f : X → Bool) (seen xs : List X) → list_any f seen ≡ true → list_any f (firsts same seen xs) ≡ true

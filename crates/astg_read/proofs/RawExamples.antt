@@ -31,14 +31,14 @@ place_with_index = refl
 signal_with_index : is_fault rules.BadName 5 (reading true spec (codes ".inputs a\n.outputs x\n.dummy e\n.graph\na+ x/1\n.end\n"))
 signal_with_index = refl
 
-marked_dummy : is_fault rules.BadMarking 6 (reading true spec (codes ".inputs a\n.outputs x\n.dummy e\n.graph\na+ e\n.marking { e }\n.end\n"))
-marked_dummy = refl
+marking_dummy : is_fault rules.BadMarking 6 (reading true spec (codes ".inputs a\n.outputs x\n.dummy e\n.graph\na+ e\n.marking { e }\n.end\n"))
+marking_dummy = refl
 
-marked_bad_index : is_fault rules.BadMarking 6 (reading true spec (codes ".inputs a\n.outputs x\n.dummy e\n.graph\na+ e\n.marking { <a+,e/> }\n.end\n"))
-marked_bad_index = refl
+marking_bad_index : is_fault rules.BadMarking 6 (reading true spec (codes ".inputs a\n.outputs x\n.dummy e\n.graph\na+ e\n.marking { <a+,e/> }\n.end\n"))
+marking_bad_index = refl
 
-marked_no_arc : is_fault rules.BadMarking 6 (reading true spec (codes ".inputs a\n.outputs x\n.dummy e\n.graph\na+ e\n.marking { <a+,p> }\n.end\n"))
-marked_no_arc = refl
+marking_no_arc : is_fault rules.BadMarking 6 (reading true spec (codes ".inputs a\n.outputs x\n.dummy e\n.graph\na+ e\n.marking { <a+,p> }\n.end\n"))
+marking_no_arc = refl
 
 dummy_named_twice : is_fault rules.DeclaredTwice 1 (reading true spec (codes ".dummy e e\n.graph\n.end\n"))
 dummy_named_twice = refl

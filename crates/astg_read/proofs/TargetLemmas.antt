@@ -6,7 +6,7 @@ use Rattle.std.proofs.Common.{◌-◌, take_all, length-drop, append_assoc}
 use Rattle.std.proofs.lemmas.List.{map-append, length-map, drop-map}
 use Rattle.astg_lex.specs.declared.words.Word.{Word}
 use Rattle.astg_read.specs.declared.targets.Target.{Target as ReadTarget}
-use Rattle.astg_read.specs.Shown.{texts, shown_target}
+use Rattle.astg_read.specs.Views.{texts, target_view}
 use Rattle.astg_read.specs.Rows.{Row}
 use Rattle.astg_read.specs.Targets.{target_at, targets_after, group_at, opens_group, target_words, front_target}
 
@@ -33,16 +33,16 @@ targets_after-front [] some = absurd (omega (arith, some))
 targets_after-front (w ∷ ws) some = from_front w ws
 
 -- what is read and what is left make the same targets after one more
-pub targets-preserved : (old new : List ReadTarget) (t : ReadTarget) (rest : List Word) (n : ℕ) → new ≡ old ++ t ∷ [] → shown_target t ≡ front_target (texts rest) → n ≡ target_words (texts rest) → 0 < length rest
-    → map shown_target new ++ targets_after zero (texts (take (length rest - n) (drop n rest))) ≡ map shown_target old ++ targets_after zero (texts rest)
-targets-preserved old new t rest n pushed shows count some =
+pub targets-preserved : (old new : List ReadTarget) (t : ReadTarget) (rest : List Word) (n : ℕ) → new ≡ old ++ t ∷ [] → target_view t ≡ front_target (texts rest) → n ≡ target_words (texts rest) → 0 < length rest
+    → map target_view new ++ targets_after zero (texts (take (length rest - n) (drop n rest))) ≡ map target_view old ++ targets_after zero (texts rest)
+targets-preserved old new t rest n pushed views count some =
     let left : texts (take (length rest - n) (drop n rest)) ≡ drop (target_words (texts rest)) (texts rest) =
     ap texts (take_all (length rest - n) (drop n rest) (omega (arith, length-drop n rest))) ∙ sym (drop-map (λ (w : Word). w.text.now) n rest) ∙ ap (λ k. drop k (texts rest)) count in
     let front : targets_after zero (texts rest) ≡ front_target (texts rest) ∷ targets_after zero (drop (target_words (texts rest)) (texts rest)) =
     targets_after-front (texts rest) (omega (arith, some, length-map rest (λ (w : Word). w.text.now))) in
-    ap (λ ts. map shown_target ts ++ targets_after zero (texts (take (length rest - n) (drop n rest)))) pushed
-    ∙ ap (λ ws. map shown_target (old ++ t ∷ []) ++ targets_after zero ws) left
-    ∙ ap (λ ts. ts ++ targets_after zero (drop (target_words (texts rest)) (texts rest))) (map-append shown_target old (t ∷ []))
-    ∙ append_assoc (map shown_target old) (shown_target t ∷ []) (targets_after zero (drop (target_words (texts rest)) (texts rest)))
-    ∙ ap (λ f. map shown_target old ++ f ∷ targets_after zero (drop (target_words (texts rest)) (texts rest))) shows
-    ∙ ap (λ ts. map shown_target old ++ ts) (sym front)
+    ap (λ ts. map target_view ts ++ targets_after zero (texts (take (length rest - n) (drop n rest)))) pushed
+    ∙ ap (λ ws. map target_view (old ++ t ∷ []) ++ targets_after zero ws) left
+    ∙ ap (λ ts. ts ++ targets_after zero (drop (target_words (texts rest)) (texts rest))) (map-append target_view old (t ∷ []))
+    ∙ append_assoc (map target_view old) (target_view t ∷ []) (targets_after zero (drop (target_words (texts rest)) (texts rest)))
+    ∙ ap (λ f. map target_view old ++ f ∷ targets_after zero (drop (target_words (texts rest)) (texts rest))) views
+    ∙ ap (λ ts. map target_view old ++ ts) (sym front)

@@ -1,43 +1,43 @@
--- What the lines of a graph say: pairs of nodes, transitions, places and arcs.
+-- What the lines of a graph say: text arcs, transitions, places and the net's arcs.
 use Rattle.std.specs.Prelude.{ℕ, zero, Bool, true, false, not, ◌&&◌, ◌||◌, List, [], ◌∷◌, ◌++◌, flat_map, filter_map, position, bytes_eq, Option, is_some, option_map, unwrap_or}
 use Rattle.stg_net.specs.declared.trans.TransName.{TransName}
 use Rattle.stg_net.specs.declared.arc.NetArc.{NetArc}
 use Rattle.astg_read.specs.Rows.{Word, Row}
 use Rattle.astg_read.specs.Lists.{firsts}
 use Rattle.astg_read.specs.Header.{Declared}
-use Rattle.astg_read.specs.Nodes.{Node, Trans, Place, same_trans, same_node, node_of, is_place}
-use Rattle.astg_read.specs.Targets.{Target, targets_after, weight_of}
+use Rattle.astg_read.specs.Nodes.{Node, Trans, Place, same_trans, same_node, node_of, is_place_node}
+use Rattle.astg_read.specs.Targets.{Target, targets_after, group_weight}
 
 -- a source and one of its targets, with the weight after the target where there is one
-pub record Pair : Type 0 where
+pub record TextArc : Type 0 where
   pub source : Node
   pub target : Node
   pub weight : Option ℕ
 
--- whether two pairs have the same source and the same target
-abbrev pub same_pair : Pair → Pair → Bool
-same_pair a b = same_node a.source b.source && same_node a.target b.target
+-- whether two text arcs have the same source and the same target
+abbrev pub same_text_arc : TextArc → TextArc → Bool
+same_text_arc a b = same_node a.source b.source && same_node a.target b.target
 
--- the pair of a source and a target
-abbrev pub pair_of : Declared → Word → Target → Option Pair
-pair_of d source t = option_map (λ word. record { source = node_of d source; target = node_of d word; weight = weight_of t.group }) t.word
+-- the text arc from a source to a target
+abbrev pub text_arc_of : Declared → Word → Target → Option TextArc
+text_arc_of d source t = option_map (λ word. record { source = node_of d source; target = node_of d word; weight = group_weight t.group }) t.word
 
--- the pairs of a line, in order
-abbrev pub pairs_on : Declared → Row → List Pair
-pairs_on d [] = []
-pairs_on d (source ∷ ws) = filter_map (pair_of d source) (targets_after zero ws)
+-- the text arcs of a line, in order
+abbrev pub text_arcs_on : Declared → Row → List TextArc
+text_arcs_on d [] = []
+text_arcs_on d (source ∷ ws) = filter_map (text_arc_of d source) (targets_after zero ws)
 
--- the pairs of the lines, in order
-abbrev pub pairs : Declared → List Row → List Pair
-pairs d rows = flat_map (pairs_on d) rows
+-- the text arcs of the lines, in order
+abbrev pub text_arcs : Declared → List Row → List TextArc
+text_arcs d rows = flat_map (text_arcs_on d) rows
 
 -- both are places
-abbrev pub joins_places : Pair → Bool
-joins_places p = is_place p.source && is_place p.target
+abbrev pub is_between_places : TextArc → Bool
+is_between_places p = is_place_node p.source && is_place_node p.target
 
 -- a weight on an arc between two transitions
-abbrev pub weighs_trans : Pair → Bool
-weighs_trans p = is_some p.weight && not (is_place p.source || is_place p.target)
+abbrev pub weighs_trans : TextArc → Bool
+weighs_trans p = is_some p.weight && not (is_place_node p.source || is_place_node p.target)
 
 -- a place of the graph: by its name, or between two transitions
 pub data PlaceAt : Type 0 where
@@ -51,14 +51,14 @@ same_place (Between a b) (Between c d) = same_trans a c && same_trans b d
 same_place p q = false
 
 -- the transition of a node, where it is one
-abbrev pub trans_at : Node → List TransName
-trans_at (Trans t) = t ∷ []
-trans_at (Place p) = []
+abbrev pub node_trans : Node → List TransName
+node_trans (Trans t) = t ∷ []
+node_trans (Place p) = []
 
 -- the place of a node, where it is one
-abbrev pub place_at : Node → List PlaceAt
-place_at (Trans t) = []
-place_at (Place p) = Named p ∷ []
+abbrev pub node_place : Node → List PlaceAt
+node_place (Trans t) = []
+node_place (Place p) = Named p ∷ []
 
 -- the place between two nodes, where both are transitions
 abbrev pub place_between : Node → Node → List PlaceAt
@@ -72,11 +72,11 @@ source_on d (w ∷ ws) = node_of d w ∷ []
 
 -- the transitions as they appear on a line, word by word
 abbrev pub trans_on : Declared → Row → List TransName
-trans_on d row = flat_map trans_at (source_on d row) ++ flat_map (λ (p : Pair). trans_at p.target) (pairs_on d row)
+trans_on d row = flat_map node_trans (source_on d row) ++ flat_map (λ (p : TextArc). node_trans p.target) (text_arcs_on d row)
 
 -- the places as they appear on a line, one between two transitions after its target
 abbrev pub places_on : Declared → Row → List PlaceAt
-places_on d row = flat_map place_at (source_on d row) ++ flat_map (λ (p : Pair). place_at p.target ++ place_between p.source p.target) (pairs_on d row)
+places_on d row = flat_map node_place (source_on d row) ++ flat_map (λ (p : TextArc). node_place p.target ++ place_between p.source p.target) (text_arcs_on d row)
 
 -- the transitions in order of first appearance
 abbrev pub transitions : Declared → List Row → List TransName
@@ -103,16 +103,16 @@ abbrev pub out_of_place : List TransName → List PlaceAt → PlaceAt → TransN
 out_of_place trans all p t weight = record { place = place_number all p; trans = trans_number trans t; into = false; weight = weight }
 
 -- the arcs from one node to another: one, or the two of the place between
-abbrev pub arcs_between : List TransName → List PlaceAt → ℕ → Node → Node → List NetArc
-arcs_between trans all weight (Trans t) (Place p) = into_place trans all (Named p) t weight ∷ []
-arcs_between trans all weight (Place p) (Trans t) = out_of_place trans all (Named p) t weight ∷ []
-arcs_between trans all weight (Trans t) (Trans u) = into_place trans all (Between t u) t 1 ∷ out_of_place trans all (Between t u) u 1 ∷ []
-arcs_between trans all weight (Place p) (Place q) = []
+abbrev pub node_arcs : List TransName → List PlaceAt → ℕ → Node → Node → List NetArc
+node_arcs trans all weight (Trans t) (Place p) = into_place trans all (Named p) t weight ∷ []
+node_arcs trans all weight (Place p) (Trans t) = out_of_place trans all (Named p) t weight ∷ []
+node_arcs trans all weight (Trans t) (Trans u) = into_place trans all (Between t u) t 1 ∷ out_of_place trans all (Between t u) u 1 ∷ []
+node_arcs trans all weight (Place p) (Place q) = []
 
--- the arcs of a pair, whose weight is 1 where none is given
-abbrev pub arcs_of : List TransName → List PlaceAt → Pair → List NetArc
-arcs_of trans all p = arcs_between trans all (unwrap_or p.weight 1) p.source p.target
+-- the arcs of a text arc, whose weight is 1 where none is given
+abbrev pub arcs_of : List TransName → List PlaceAt → TextArc → List NetArc
+arcs_of trans all p = node_arcs trans all (unwrap_or p.weight 1) p.source p.target
 
--- the arcs of pairs, in their order
-abbrev pub arcs : List TransName → List PlaceAt → List Pair → List NetArc
-arcs trans all pairs = flat_map (arcs_of trans all) pairs
+-- the arcs of text arcs, in their order
+abbrev pub arcs : List TransName → List PlaceAt → List TextArc → List NetArc
+arcs trans all text_arcs = flat_map (arcs_of trans all) text_arcs

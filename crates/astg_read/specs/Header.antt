@@ -29,8 +29,8 @@ abbrev pub dummies_on : Row → Row
 dummies_on row = if begins (codes ".dummy") row then after_first row else []
 
 -- what the lines declare before .graph
-abbrev pub declared : List Row → Declared
-declared rows = record { signals = flat_map signals_on (header_rows rows); dummies = flat_map dummies_on (header_rows rows) }
+abbrev pub declared_in : List Row → Declared
+declared_in rows = record { signals = flat_map signals_on (header_rows rows); dummies = flat_map dummies_on (header_rows rows) }
 
 -- the two signals have one name
 abbrev pub same_name : Signal → Signal → Bool
@@ -38,7 +38,7 @@ same_name s t = bytes_eq s.name t.name
 
 -- the name is a declared dummy's
 abbrev pub is_dummy : Declared → Word → Bool
-is_dummy declared name = list_any (bytes_eq name) declared.dummies
+is_dummy declared_in name = list_any (bytes_eq name) declared_in.dummies
 
 -- what is declared where there are no dummies
 abbrev pub without_dummies : List Signal → Declared

@@ -6,9 +6,9 @@ use Rattle.stg_net.specs.Names.{is_name}
 use Rattle.stg_net.specs.declared.trans.TransName.{TransName}
 use Rattle.astg_read.specs.Rows.{Word, Row}
 use Rattle.astg_read.specs.Names.{number}
-use Rattle.astg_read.specs.Lists.{added}
+use Rattle.astg_read.specs.Lists.{with_new}
 use Rattle.astg_read.specs.Header.{Declared}
-use Rattle.astg_read.specs.Nodes.{is_trans_word, trans_of}
+use Rattle.astg_read.specs.Nodes.{is_trans_word, trans_of_word}
 use Rattle.astg_read.specs.Graphs.{PlaceAt, Named, Between, same_place}
 
 -- the second word is the first one
@@ -158,7 +158,7 @@ between_both t u = None
 -- the place that the words of a whole place name
 abbrev pub named_place : Declared → Row → Option PlaceAt
 named_place d (name ∷ []) = named_by name
-named_place d (l ∷ t ∷ c ∷ u ∷ g ∷ []) = between_both (trans_of d t) (trans_of d u)
+named_place d (l ∷ t ∷ c ∷ u ∷ g ∷ []) = between_both (trans_of_word d t) (trans_of_word d u)
 named_place d words = None
 
 -- the words name one of these places
@@ -167,7 +167,7 @@ names_one d places words = option_map_or (λ p. list_any (same_place p) places) 
 
 -- these places, and the one that the words name
 abbrev pub with_named : Declared → List PlaceAt → Row → List PlaceAt
-with_named d places words = option_map_or (added same_place places) (named_place d words) places
+with_named d places words = option_map_or (with_new same_place places) (named_place d words) places
 
 -- the number after =, and 1 where there is none
 abbrev pub tokens_of : Row → ℕ
@@ -200,9 +200,9 @@ is_bad_marking most d places words =
     || nat_lt 0 (length (after_close words))
 
 -- the tokens of a place: those of its entry, or none
-abbrev pub tokens_in : Declared → List Entry → PlaceAt → ℕ
-tokens_in d [] p = 0
-tokens_in d (e ∷ es) p = if option_map_or (same_place p) (named_place d e.place) false then tokens_of e.tokens else tokens_in d es p
+abbrev pub entry_tokens : Declared → List Entry → PlaceAt → ℕ
+entry_tokens d [] p = 0
+entry_tokens d (e ∷ es) p = if option_map_or (same_place p) (named_place d e.place) false then tokens_of e.tokens else entry_tokens d es p
 
 -- the marking has begun, and has no } yet
 abbrev pub is_unfinished : Option Row → Bool

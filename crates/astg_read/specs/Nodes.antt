@@ -26,28 +26,28 @@ same_node (Place p) (Place q) = bytes_eq p q
 same_node m n = false
 
 -- the longest name in front
-abbrev pub name_in : Word → Word
-name_in w = take_while is_in_name w
+abbrev pub front_name : Word → Word
+front_name w = take_while is_in_name w
 
 -- a dummy's name, and the index after it; a dummy has no edge of its own
 abbrev pub dummy_word : Word → Option WordOfTrans
-dummy_word w = option_map (λ index. record { name = name_in w; edge = Toggle; index = index }) (index_of (drop (length (name_in w)) w))
+dummy_word w = option_map (λ index. record { name = front_name w; edge = Toggle; index = index }) (index_of (drop (length (front_name w)) w))
 
 -- what the word of a transition says: a dummy has a word of its own, and no word with an edge
-abbrev pub trans_word : Declared → Word → Option WordOfTrans
-trans_word d w = if is_dummy d (name_in w) then dummy_word w else read_trans_word w
+abbrev pub trans_word_parts : Declared → Word → Option WordOfTrans
+trans_word_parts d w = if is_dummy d (front_name w) then dummy_word w else read_trans_word w
 
 -- the transition of the signal that has the word's name
 abbrev pub with_number : List Signal → WordOfTrans → Option TransName
 with_number signals p = option_map (λ n. record { signal = n; edge = p.edge; index = p.index }) (number_of p.name signals)
 
 -- the transition of a declared name for which a word stands
-abbrev pub trans_of : Declared → Word → Option TransName
-trans_of d w = option_and_then (with_number d.signals) (trans_word d w)
+abbrev pub trans_of_word : Declared → Word → Option TransName
+trans_of_word d w = option_and_then (with_number d.signals) (trans_word_parts d w)
 
 -- a declared dummy's name, and an index where there is one
 abbrev pub is_dummy_word : Declared → Word → Bool
-is_dummy_word d w = is_dummy d (name_in w) && is_some (dummy_word w)
+is_dummy_word d w = is_dummy d (front_name w) && is_some (dummy_word w)
 
 -- the word has the form of a transition
 abbrev pub is_trans_word : Declared → Word → Bool
@@ -59,7 +59,7 @@ is_node d w = is_trans_word d w || is_name w
 
 -- a transition word that stands for no transition
 abbrev pub is_unknown : Declared → Word → Bool
-is_unknown d w = is_some (read_trans_word w) && is_none (trans_of d w)
+is_unknown d w = is_some (read_trans_word w) && is_none (trans_of_word d w)
 
 -- the name of a signal that is no dummy
 abbrev pub is_signal : Declared → Word → Bool
@@ -72,9 +72,9 @@ trans_or_place w (Some t) = Trans t
 
 -- the node for which a word of the graph stands
 abbrev pub node_of : Declared → Word → Node
-node_of d w = trans_or_place w (trans_of d w)
+node_of d w = trans_or_place w (trans_of_word d w)
 
 -- the node is a place
-abbrev pub is_place : Node → Bool
-is_place (Trans t) = false
-is_place (Place p) = true
+abbrev pub is_place_node : Node → Bool
+is_place_node (Trans t) = false
+is_place_node (Place p) = true

@@ -13,8 +13,8 @@ use Rattle.astg_read.specs.declared.rule.Rule.TheVariants.{NoGraph, NoEnd, TooLo
 use Rattle.astg_read.specs.Rows.{Row, has_graph}
 use Rattle.astg_read.specs.Header.{Declared}
 use Rattle.astg_read.specs.Graphs.{PlaceAt, Named, Between, trans_number}
-use Rattle.astg_read.specs.Markings.{entries_of, tokens_in}
-use Rattle.astg_read.specs.Known.{Known, known, arcs_in}
+use Rattle.astg_read.specs.Markings.{entries_of, entry_tokens}
+use Rattle.astg_read.specs.Said.{Said, said, arcs_in}
 use Rattle.astg_read.specs.Rules.{Line, seen_line, broken_by, ends_text}
 
 -- a rule, and the line that breaks it
@@ -31,10 +31,10 @@ pub record Meaning : Type 0 where
 -- the tokens of a place
 abbrev pub tokens_by : Declared → Option Row → PlaceAt → ℕ
 tokens_by d None p = 0
-tokens_by d (Some words) p = tokens_in d (entries_of words) p
+tokens_by d (Some words) p = entry_tokens d (entries_of words) p
 
 -- what the lines up to .end stand for
-abbrev pub meaning_of : Known → Meaning
+abbrev pub meaning_of : Said → Meaning
 meaning_of k = record {
   lists = record { signals = k.declared.signals; trans = k.trans; tokens = map (tokens_by k.declared k.marking) k.places; arcs = arcs_in k };
   places = k.places;
@@ -55,7 +55,7 @@ abbrev pub reading_after : Bool → Limits → ℕ → List Row → List Line �
 reading_after is_raw limits last before [] = Err (record { rule = missing (has_graph before); line = last })
 reading_after is_raw limits last before (l ∷ ls) =
     or_fault (length before + 1) (broken_by is_raw limits before l)
-    (if ends_text (known before) l.words then Ok (meaning_of (known before)) else reading_after is_raw limits last (before ++ l.words ∷ []) ls)
+    (if ends_text (said before) l.words then Ok (meaning_of (said before)) else reading_after is_raw limits last (before ++ l.words ∷ []) ls)
 
 -- what a text stands for, or its first fault
 abbrev pub reading : Bool → Limits → List ℕ → Result Meaning Fault

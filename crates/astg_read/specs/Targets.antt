@@ -60,9 +60,9 @@ node_words [] = []
 node_words (source ∷ ws) = source ∷ words_in (targets_after zero ws)
 
 -- the number in a weight group, where it is (, a number and )
-abbrev pub weight_of : Row → Option ℕ
-weight_of (o ∷ n ∷ c ∷ []) = if opens_group o && closes_group c then number n else None
-weight_of ws = None
+abbrev pub group_weight : Row → Option ℕ
+group_weight (o ∷ n ∷ c ∷ []) = if opens_group o && closes_group c then number n else None
+group_weight ws = None
 
 -- a weight from 1 to the limit
 abbrev pub is_weight : ℕ → Option ℕ → Bool
@@ -71,4 +71,4 @@ is_weight most (Some n) = nat_le 1 n && nat_le n most
 
 -- there is no group, or it stands after a target and holds a weight
 abbrev pub is_good_group : ℕ → Target → Bool
-is_good_group most t = nat_eq (length t.group) 0 || (is_some t.word && is_weight most (weight_of t.group))
+is_good_group most t = nat_eq (length t.group) 0 || (is_some t.word && is_weight most (group_weight t.group))

@@ -4,12 +4,12 @@ ghost use Rattle.std.specs.Prelude.{◌≡◌, ◌≤◌, ◌<◌, ◌^◌, ◌+
 ghost use Rattle.astg_read.specs.Header.{without_dummies};
 ghost use Rattle.astg_read.specs.Markings.{entries_after};
 ghost use Rattle.astg_read.specs.Markings as markings;
-ghost use Rattle.astg_read.specs.Shown.{shown_entry, shown_entries, shown_place, shown_words};
+ghost use Rattle.astg_read.specs.Views.{entry_view, entry_views, place_view, slices_view};
 
-use crate::graph::Place;
 use crate::names::{is_name, number};
-use crate::nodes::{is_trans_word, trans_of};
+use crate::nodes::{is_trans_word, trans_of_word};
 use crate::signals::Signals;
+use crate::text_graph::TextPlace;
 use std::alloc::Global;
 use stg_net::{NoMemory, Seq, TransName};
 
@@ -47,7 +47,7 @@ fn is_equals(word: &[u8]) -> bool
 /// The words of the place in front.
 fn place_words<'w, 'a>(words: &'w [&'a [u8]]) -> &'w [&'a [u8]]
     requires { 0 < length words.now }
-    ensures place { shown_words result.now ≡ (markings.front_entry (shown_words words.now)).place }
+    ensures place { slices_view result.now ≡ (markings.front_entry (slices_view words.now)).place }
     ensures least { 1 ≤ length result.now }
     ensures most { length result.now ≤ length words.now }
 {
@@ -62,7 +62,7 @@ fn place_words<'w, 'a>(words: &'w [&'a [u8]]) -> &'w [&'a [u8]]
 
 /// Up to two words, where the first is `=`.
 fn token_words<'w, 'a>(words: &'w [&'a [u8]]) -> &'w [&'a [u8]]
-    ensures tokens { shown_words result.now ≡ markings.token_words (shown_words words.now) }
+    ensures tokens { slices_view result.now ≡ markings.token_words (slices_view words.now) }
     ensures most { length result.now ≤ length words.now }
 {
     match words {
@@ -75,7 +75,7 @@ fn token_words<'w, 'a>(words: &'w [&'a [u8]]) -> &'w [&'a [u8]]
 /// The entry in front.
 pub fn front<'w, 'a>(words: &'w [&'a [u8]]) -> Entry<'w, 'a>
     requires { 0 < length words.now }
-    ensures entry { shown_entry result ≡ markings.front_entry (shown_words words.now) }
+    ensures entry { entry_view result ≡ markings.front_entry (slices_view words.now) }
     ensures least { 1 ≤ length result.place.now }
     ensures most { length result.place.now + length result.tokens.now ≤ length words.now }
 {
@@ -89,7 +89,7 @@ pub fn entries_of<'w, 'a>(
     alloc: Global,
     words: &'w [&'a [u8]],
 ) -> Result<Seq<Entry<'w, 'a>>, NoMemory>
-    ensures { IfOk result (λ entries. shown_entries entries ≡ entries_after zero (shown_words words.now)) }
+    ensures { IfOk result (λ entries. entry_views entries ≡ entries_after zero (slices_view words.now)) }
 {
     let mut entries = Seq::new(alloc);
     let mut rest = words;
@@ -102,7 +102,7 @@ pub fn entries_of<'w, 'a>(
 }
 
 fn starts_name(words: &[&[u8]]) -> bool
-    ensures { result ≡ markings.starts_name (shown_words words.now) }
+    ensures { result ≡ markings.starts_name (slices_view words.now) }
 {
     match words {
         [] => true,
@@ -111,7 +111,7 @@ fn starts_name(words: &[&[u8]]) -> bool
 }
 
 fn starts_close(words: &[&[u8]]) -> bool
-    ensures { result ≡ markings.starts_close (shown_words words.now) }
+    ensures { result ≡ markings.starts_close (slices_view words.now) }
 {
     match words {
         [] => true,
@@ -120,7 +120,7 @@ fn starts_close(words: &[&[u8]]) -> bool
 }
 
 fn starts_target(words: &[&[u8]]) -> bool
-    ensures { result ≡ markings.starts_target (without_dummies []) (shown_words words.now) }
+    ensures { result ≡ markings.starts_target (without_dummies []) (slices_view words.now) }
 {
     match words {
         [] => true,
@@ -129,7 +129,7 @@ fn starts_target(words: &[&[u8]]) -> bool
 }
 
 fn starts_comma(words: &[&[u8]]) -> bool
-    ensures { result ≡ markings.starts_comma (without_dummies []) (shown_words words.now) }
+    ensures { result ≡ markings.starts_comma (without_dummies []) (slices_view words.now) }
 {
     match words {
         [] => true,
@@ -138,7 +138,7 @@ fn starts_comma(words: &[&[u8]]) -> bool
 }
 
 fn starts_source(words: &[&[u8]]) -> bool
-    ensures { result ≡ markings.starts_source (without_dummies []) (shown_words words.now) }
+    ensures { result ≡ markings.starts_source (without_dummies []) (slices_view words.now) }
 {
     match words {
         [] => true,
@@ -147,7 +147,7 @@ fn starts_source(words: &[&[u8]]) -> bool
 }
 
 fn starts_between(words: &[&[u8]]) -> bool
-    ensures { result ≡ markings.starts_between (without_dummies []) (shown_words words.now) }
+    ensures { result ≡ markings.starts_between (without_dummies []) (slices_view words.now) }
 {
     match words {
         [] => true,
@@ -156,7 +156,7 @@ fn starts_between(words: &[&[u8]]) -> bool
 }
 
 fn starts_number(words: &[&[u8]]) -> bool
-    ensures { result ≡ markings.starts_number (shown_words words.now) }
+    ensures { result ≡ markings.starts_number (slices_view words.now) }
 {
     match words {
         [] => true,
@@ -165,7 +165,7 @@ fn starts_number(words: &[&[u8]]) -> bool
 }
 
 fn starts_tokens(words: &[&[u8]]) -> bool
-    ensures { result ≡ markings.starts_tokens (shown_words words.now) }
+    ensures { result ≡ markings.starts_tokens (slices_view words.now) }
 {
     match words {
         [] => true,
@@ -175,14 +175,14 @@ fn starts_tokens(words: &[&[u8]]) -> bool
 
 /// Whether the words of an entry, as far as they go, begin one.
 pub fn starts_entry(entry: &Entry<'_, '_>) -> bool
-    ensures { result ≡ markings.starts_entry (without_dummies []) (shown_entry entry.now) }
+    ensures { result ≡ markings.starts_entry (without_dummies []) (entry_view entry.now) }
 {
     (starts_name(entry.place) || starts_between(entry.place)) && starts_tokens(entry.tokens)
 }
 
 /// Whether no word of a place is missing.
 pub fn is_whole_place(words: &[&[u8]]) -> bool
-    ensures { result ≡ markings.is_whole_place (shown_words words.now) }
+    ensures { result ≡ markings.is_whole_place (slices_view words.now) }
 {
     match words {
         [name] => !opens_place(name),
@@ -192,41 +192,44 @@ pub fn is_whole_place(words: &[&[u8]]) -> bool
 
 /// Whether no word of an entry is missing.
 pub fn is_whole(entry: &Entry<'_, '_>) -> bool
-    ensures { result ≡ markings.is_whole (shown_entry entry.now) }
+    ensures { result ≡ markings.is_whole (entry_view entry.now) }
 {
     is_whole_place(entry.place) && entry.tokens.len() != 1
 }
 
 /// The place of that name; the word `<` is none.
-fn named_by(name: &[u8]) -> Option<Place<'_>>
-    ensures { option_map shown_place result ≡ markings.named_by name.now }
+fn named_by(name: &[u8]) -> Option<TextPlace<'_>>
+    ensures { option_map place_view result ≡ markings.named_by name.now }
 {
     if opens_place(name) {
         None
     } else {
-        Some(Place::Named(name))
+        Some(TextPlace::Named(name))
     }
 }
 
 /// The place between two transitions, where both are there.
-fn between_both<'a>(from: Option<TransName>, to: Option<TransName>) -> Option<Place<'a>>
-    ensures { option_map shown_place result ≡ markings.between_both from to }
+fn between_both<'a>(from: Option<TransName>, to: Option<TransName>) -> Option<TextPlace<'a>>
+    ensures { option_map place_view result ≡ markings.between_both from to }
 {
     match (from, to) {
-        (Some(from), Some(to)) => Some(Place::Between(from, to)),
+        (Some(from), Some(to)) => Some(TextPlace::Between(from, to)),
         _ => None,
     }
 }
 
 /// The place that the words of a whole place name.
-pub fn named_place<'a>(signals: &Signals<'_>, words: &[&'a [u8]]) -> Option<Place<'a>>
+pub fn named_place<'a>(signals: &Signals<'_>, words: &[&'a [u8]]) -> Option<TextPlace<'a>>
     requires { length signals.now < 2 ^ 32 }
-    ensures { option_map shown_place result ≡ markings.named_place (without_dummies signals.now) (shown_words words.now) }
+    ensures { option_map place_view result ≡ markings.named_place (without_dummies signals.now) (slices_view words.now) }
 {
     if words.len() == 1 {
         named_by(words[0])
     } else if words.len() == 5 {
-        between_both(trans_of(signals, words[1]), trans_of(signals, words[3]))
+        between_both(
+            trans_of_word(signals, words[1]),
+            trans_of_word(signals, words[3]),
+        )
     } else {
         None
     }
@@ -234,7 +237,7 @@ pub fn named_place<'a>(signals: &Signals<'_>, words: &[&'a [u8]]) -> Option<Plac
 
 /// The number after `=`, and 1 where there is none.
 pub fn tokens_of(words: &[&[u8]]) -> u32
-    ensures { result ≡ markings.tokens_of (shown_words words.now) }
+    ensures { result ≡ markings.tokens_of (slices_view words.now) }
 {
     match words {
         [_, tokens] => number(tokens).unwrap_or(1),

@@ -4,25 +4,25 @@ ghost use Rattle.std.specs.Prelude.{◌≡◌, ◌+◌, ◌<◌, ◌≤◌, ◌^
 ghost use Rattle.std.specs.List.{list_all};
 ghost use Rattle.stg_net.specs.declared.trans.TransName.{TransName};
 ghost use Rattle.stg_net.specs.Building.{HasEnds, with_arc};
-ghost use Rattle.astg_read.specs.Built.{AreLimits, IsBuilt, IsReady, AreReady, known_by, with_all_trans, with_all_tokens, with_all_arcs};
+ghost use Rattle.astg_read.specs.Construction.{AreLimits, IsBuilt, IsReady, AreReady, said_by, with_all_trans, with_all_tokens, with_all_arcs};
 ghost use Rattle.astg_read.specs.Graphs.{PlaceAt};
 ghost use Rattle.astg_read.specs.Graphs as graphs;
-ghost use Rattle.astg_read.specs.Marks as marked;
+ghost use Rattle.astg_read.specs.PlaceTokens as listed;
 ghost use Rattle.astg_read.specs.Header.{without_dummies};
-ghost use Rattle.astg_read.specs.Lists.{stands_again};
+ghost use Rattle.astg_read.specs.Lists.{has_repeat};
 ghost use Rattle.astg_read.specs.Nodes as nodes;
 ghost use Rattle.astg_read.specs.Reading as readings;
-ghost use Rattle.astg_read.specs.Sound.{is_trans_in};
-ghost use Rattle.astg_read.specs.Taking.{IsKept, known_of};
+ghost use Rattle.astg_read.specs.WellFormed.{is_trans_in};
+ghost use Rattle.astg_read.specs.LineResult.{IsFaultless, said_of};
 ghost use Rattle.stg_net.specs.Net.{IsWithin};
-ghost use Rattle.astg_read.specs.Shown.{shown_marks, shown_node, shown_place, shown_weighed};
+ghost use Rattle.astg_read.specs.Views.{place_tokens_views, node_view, place_view, weighed_view};
 
-use crate::graph::{Ends, Graph, GraphParts, Place};
 use crate::marking::Marking;
-use crate::marks::{Mark, tokens_at};
 use crate::nodes::Node;
+use crate::place_tokens::{PlaceTokens, tokens_for};
 use crate::reader::Reader;
 use crate::signals::{Signals, only_memory};
+use crate::text_graph::{Ends, GraphParts, TextGraph, TextPlace};
 use indexmap::{IndexMap, IndexSet};
 use std::alloc::Global;
 use stg_net::{Limits, Net, NetArc, NetBuilder, NoMemory, PlaceName, Seq, Spec, TransName};
@@ -39,9 +39,9 @@ fn trans_number(trans: &IndexSet<TransName>, name: TransName) -> u32
 }
 
 /// The number of a place; 0 where it isn't there.
-fn place_number(places: &IndexSet<Place<'_>>, place: &Place<'_>) -> u32
+fn place_number(places: &IndexSet<TextPlace<'_>>, place: &TextPlace<'_>) -> u32
     requires { length places.now.keys < 2 ^ 32 }
-    ensures { result ≡ graphs.place_number (map shown_place places.now.keys) (shown_place place.now) }
+    ensures { result ≡ graphs.place_number (map place_view places.now.keys) (place_view place.now) }
 {
     match places.get_index_of(place) {
         Some(at) => at as u32,
@@ -52,7 +52,7 @@ fn place_number(places: &IndexSet<Place<'_>>, place: &Place<'_>) -> u32
 /// Adds transitions that differ.
 fn add_trans(builder: &mut NetBuilder, trans: &[TransName]) -> Result<(), NoMemory>
     requires there { list_all (is_trans_in (length builder.old.lists.signals)) trans.now ≡ true }
-    requires differ { stands_again nodes.same_trans [] trans.now ≡ false }
+    requires differ { has_repeat nodes.same_trans [] trans.now ≡ false }
     requires none { builder.old.lists.trans ≡ [] }
     requires room { length builder.old.lists.trans + length trans.now ≤ builder.old.limits.trans }
     ensures { OnOk result (builder.new ≡ with_all_trans builder.old trans.now) }
@@ -84,15 +84,15 @@ fn add_arc(builder: &mut NetBuilder, arc: NetArc) -> Result<(), NoMemory>
 /// Adds places with their tokens.
 fn add_places(
     builder: &mut NetBuilder,
-    marks: &[Mark<'_>],
-    places: &[Place<'_>],
+    place_tokens: &[PlaceTokens<'_>],
+    places: &[TextPlace<'_>],
 ) -> Result<(), NoMemory>
-    requires most { (p : PlaceAt) → marked.tokens_at (shown_marks marks.now) p ≤ builder.old.limits.weight }
+    requires most { (p : PlaceAt) → listed.tokens_for (place_tokens_views place_tokens.now) p ≤ builder.old.limits.weight }
     requires room { length builder.old.lists.tokens + length places.now ≤ builder.old.limits.places }
-    ensures { OnOk result (builder.new ≡ with_all_tokens builder.old (map (marked.tokens_at (shown_marks marks.now)) (map shown_place places.now))) }
+    ensures { OnOk result (builder.new ≡ with_all_tokens builder.old (map (listed.tokens_for (place_tokens_views place_tokens.now)) (map place_view places.now))) }
 {
     for place in places {
-        match builder.add_place(tokens_at(marks, place)) {
+        match builder.add_place(tokens_for(place_tokens, place)) {
             Ok(_) => {}
             Err(error) => return Err(only_memory(error)),
         }
@@ -104,16 +104,16 @@ fn add_places(
 fn add_into(
     builder: &mut NetBuilder,
     trans: &IndexSet<TransName>,
-    places: &IndexSet<Place<'_>>,
+    places: &IndexSet<TextPlace<'_>>,
     from: TransName,
     to: &[u8],
     weight: Option<u32>,
 ) -> Result<(), NoMemory>
-    requires { IsReady builder.old trans.now.keys (map shown_place places.now.keys) (record { source = nodes.Trans from; target = nodes.Place to.now; weight = weight }) }
-    ensures { OnOk result (builder.new ≡ with_all_arcs builder.old (graphs.arcs_of trans.now.keys (map shown_place places.now.keys) (record { source = nodes.Trans from; target = nodes.Place to.now; weight = weight }))) }
+    requires { IsReady builder.old trans.now.keys (map place_view places.now.keys) (record { source = nodes.Trans from; target = nodes.Place to.now; weight = weight }) }
+    ensures { OnOk result (builder.new ≡ with_all_arcs builder.old (graphs.arcs_of trans.now.keys (map place_view places.now.keys) (record { source = nodes.Trans from; target = nodes.Place to.now; weight = weight }))) }
 {
     let arc = NetArc {
-        place: place_number(places, &Place::Named(to)),
+        place: place_number(places, &TextPlace::Named(to)),
         trans: trans_number(trans, from),
         into: true,
         weight: weight.unwrap_or(1),
@@ -125,16 +125,16 @@ fn add_into(
 fn add_out_of(
     builder: &mut NetBuilder,
     trans: &IndexSet<TransName>,
-    places: &IndexSet<Place<'_>>,
+    places: &IndexSet<TextPlace<'_>>,
     from: &[u8],
     to: TransName,
     weight: Option<u32>,
 ) -> Result<(), NoMemory>
-    requires { IsReady builder.old trans.now.keys (map shown_place places.now.keys) (record { source = nodes.Place from.now; target = nodes.Trans to; weight = weight }) }
-    ensures { OnOk result (builder.new ≡ with_all_arcs builder.old (graphs.arcs_of trans.now.keys (map shown_place places.now.keys) (record { source = nodes.Place from.now; target = nodes.Trans to; weight = weight }))) }
+    requires { IsReady builder.old trans.now.keys (map place_view places.now.keys) (record { source = nodes.Place from.now; target = nodes.Trans to; weight = weight }) }
+    ensures { OnOk result (builder.new ≡ with_all_arcs builder.old (graphs.arcs_of trans.now.keys (map place_view places.now.keys) (record { source = nodes.Place from.now; target = nodes.Trans to; weight = weight }))) }
 {
     let arc = NetArc {
-        place: place_number(places, &Place::Named(from)),
+        place: place_number(places, &TextPlace::Named(from)),
         trans: trans_number(trans, to),
         into: false,
         weight: weight.unwrap_or(1),
@@ -146,15 +146,15 @@ fn add_out_of(
 fn add_both(
     builder: &mut NetBuilder,
     trans: &IndexSet<TransName>,
-    places: &IndexSet<Place<'_>>,
+    places: &IndexSet<TextPlace<'_>>,
     from: TransName,
     to: TransName,
     weight: Option<u32>,
 ) -> Result<(), NoMemory>
-    requires { IsReady builder.old trans.now.keys (map shown_place places.now.keys) (record { source = nodes.Trans from; target = nodes.Trans to; weight = weight }) }
-    ensures { OnOk result (builder.new ≡ with_all_arcs builder.old (graphs.arcs_of trans.now.keys (map shown_place places.now.keys) (record { source = nodes.Trans from; target = nodes.Trans to; weight = weight }))) }
+    requires { IsReady builder.old trans.now.keys (map place_view places.now.keys) (record { source = nodes.Trans from; target = nodes.Trans to; weight = weight }) }
+    ensures { OnOk result (builder.new ≡ with_all_arcs builder.old (graphs.arcs_of trans.now.keys (map place_view places.now.keys) (record { source = nodes.Trans from; target = nodes.Trans to; weight = weight }))) }
 {
-    let place = place_number(places, &Place::Between(from, to));
+    let place = place_number(places, &TextPlace::Between(from, to));
     let into = NetArc {
         place,
         trans: trans_number(trans, from),
@@ -171,17 +171,17 @@ fn add_both(
     add_arc(builder, out)
 }
 
-/// Adds the arcs of a pair. An arc between two places is none, and its line was refused.
-fn add_pair(
+/// Adds the arcs of a text arc. An arc between two places is none, and its line was refused.
+fn add_text_arc(
     builder: &mut NetBuilder,
     trans: &IndexSet<TransName>,
-    places: &IndexSet<Place<'_>>,
+    places: &IndexSet<TextPlace<'_>>,
     source: Node<'_>,
     target: Node<'_>,
     weight: Option<u32>,
 ) -> Result<(), NoMemory>
-    requires { IsReady builder.old trans.now.keys (map shown_place places.now.keys) (record { source = shown_node source; target = shown_node target; weight = weight }) }
-    ensures { OnOk result (builder.new ≡ with_all_arcs builder.old (graphs.arcs_of trans.now.keys (map shown_place places.now.keys) (record { source = shown_node source.entry; target = shown_node target.entry; weight = weight }))) }
+    requires { IsReady builder.old trans.now.keys (map place_view places.now.keys) (record { source = node_view source; target = node_view target; weight = weight }) }
+    ensures { OnOk result (builder.new ≡ with_all_arcs builder.old (graphs.arcs_of trans.now.keys (map place_view places.now.keys) (record { source = node_view source.entry; target = node_view target.entry; weight = weight }))) }
 {
     match (source, target) {
         (Node::Trans(from), Node::Place(to)) => {
@@ -197,18 +197,18 @@ fn add_pair(
     }
 }
 
-/// Adds the arcs of all pairs.
+/// Adds the arcs of all text arcs.
 fn add_arcs(
     builder: &mut NetBuilder,
     trans: &IndexSet<TransName>,
-    places: &IndexSet<Place<'_>>,
+    places: &IndexSet<TextPlace<'_>>,
     weights: IndexMap<Ends<'_>, Option<u32>>,
 ) -> Result<(), NoMemory>
-    requires { AreReady builder.old trans.now.keys (map shown_place places.now.keys) (map shown_weighed weights.entries) }
-    ensures { OnOk result (builder.new ≡ with_all_arcs builder.old (graphs.arcs trans.now.keys (map shown_place places.now.keys) (map shown_weighed weights.entry.entries))) }
+    requires { AreReady builder.old trans.now.keys (map place_view places.now.keys) (map weighed_view weights.entries) }
+    ensures { OnOk result (builder.new ≡ with_all_arcs builder.old (graphs.arcs trans.now.keys (map place_view places.now.keys) (map weighed_view weights.entry.entries))) }
 {
     for (ends, weight) in weights {
-        add_pair(builder, trans, places, ends.source, ends.target, weight)?;
+        add_text_arc(builder, trans, places, ends.source, ends.target, weight)?;
     }
     Ok(())
 }
@@ -217,14 +217,14 @@ fn add_arcs(
 fn place_name(
     alloc: Global,
     trans: &IndexSet<TransName>,
-    place: &Place<'_>,
+    place: &TextPlace<'_>,
 ) -> Result<PlaceName, NoMemory>
     requires { length trans.now.keys < 2 ^ 32 }
-    ensures { IfOk result (λ name. name ≡ readings.place_name trans.now.keys (shown_place place.now)) }
+    ensures { IfOk result (λ name. name ≡ readings.place_name trans.now.keys (place_view place.now)) }
 {
     match place {
-        Place::Named(name) => Ok(PlaceName::Named(Seq::from_slice(alloc, name)?)),
-        Place::Between(from, to) => Ok(PlaceName::Between {
+        TextPlace::Named(name) => Ok(PlaceName::Named(Seq::from_slice(alloc, name)?)),
+        TextPlace::Between(from, to) => Ok(PlaceName::Between {
             from: trans_number(trans, *from),
             to: trans_number(trans, *to),
         }),
@@ -235,10 +235,10 @@ fn place_name(
 fn place_names(
     alloc: Global,
     trans: &IndexSet<TransName>,
-    places: &[Place<'_>],
+    places: &[TextPlace<'_>],
 ) -> Result<Seq<PlaceName>, NoMemory>
     requires { length trans.now.keys < 2 ^ 32 }
-    ensures { IfOk result (λ names. names ≡ map (readings.place_name trans.now.keys) (map shown_place places.now)) }
+    ensures { IfOk result (λ names. names ≡ map (readings.place_name trans.now.keys) (map place_view places.now)) }
 {
     let mut names = Seq::new(alloc);
     for place in places {
@@ -247,18 +247,18 @@ fn place_names(
     Ok(names)
 }
 
-/// The net of signals, a graph, and marks on its places, with the names of the places.
+/// The net of signals, a graph, and the tokens of its places, with the names of the places.
 fn net_of<'a>(
     alloc: Global,
     limits: &Limits,
     signals: Signals<'a>,
-    graph: Graph<'a>,
-    marks: &[Mark<'a>],
+    graph: TextGraph<'a>,
+    place_tokens: &[PlaceTokens<'a>],
 ) -> Result<(Net, Seq<PlaceName>), NoMemory>
     requires limits { AreLimits limits.now }
-    requires kept { IsKept limits.now (known_by signals graph) }
-    requires tokens { (p : PlaceAt) → marked.tokens_at (shown_marks marks.now) p ≤ limits.now.weight }
-    ensures built { IfOk result (λ r. IsBuilt signals.entry graph.entry (map (marked.tokens_at (shown_marks marks.now)) graph.entry.places) (record { net = r.0; place_names = r.1 })) }
+    requires faultless { IsFaultless limits.now (said_by signals graph) }
+    requires tokens { (p : PlaceAt) → listed.tokens_for (place_tokens_views place_tokens.now) p ≤ limits.now.weight }
+    ensures built { IfOk result (λ r. IsBuilt signals.entry graph.entry (map (listed.tokens_for (place_tokens_views place_tokens.now)) graph.entry.places) (record { net = r.0; place_names = r.1 })) }
     ensures within { IfOk result (λ r. IsWithin limits.now r.0) }
 {
     let mut builder = NetBuilder::new(alloc, *limits);
@@ -270,44 +270,44 @@ fn net_of<'a>(
     } = graph.into_parts();
     let names = place_names(alloc, &trans, places.as_slice())?;
     add_trans(&mut builder, trans.as_slice())?;
-    add_places(&mut builder, marks, places.as_slice())?;
+    add_places(&mut builder, place_tokens, places.as_slice())?;
     add_arcs(&mut builder, &trans, &places, weights)?;
     let net = builder.finish()?;
     Ok((net, names))
 }
 
-/// The specification of signals, a graph, and marks on its places.
+/// The specification of signals, a graph, and the tokens of its places.
 fn build<'a>(
     alloc: Global,
     limits: &Limits,
     signals: Signals<'a>,
-    graph: Graph<'a>,
-    marks: &[Mark<'a>],
+    graph: TextGraph<'a>,
+    place_tokens: &[PlaceTokens<'a>],
 ) -> Result<Spec, NoMemory>
     requires limits { AreLimits limits.now }
-    requires kept { IsKept limits.now (known_by signals graph) }
-    requires tokens { (p : PlaceAt) → marked.tokens_at (shown_marks marks.now) p ≤ limits.now.weight }
-    ensures value { IfOk result (λ s. IsBuilt signals.entry graph.entry (map (marked.tokens_at (shown_marks marks.now)) graph.entry.places) s) }
+    requires faultless { IsFaultless limits.now (said_by signals graph) }
+    requires tokens { (p : PlaceAt) → listed.tokens_for (place_tokens_views place_tokens.now) p ≤ limits.now.weight }
+    ensures value { IfOk result (λ s. IsBuilt signals.entry graph.entry (map (listed.tokens_for (place_tokens_views place_tokens.now)) graph.entry.places) s) }
     ensures within { IfOk result (λ s. IsWithin limits.now s.net) }
 {
-    let (net, names) = net_of(alloc, limits, signals, graph, marks)?;
+    let (net, names) = net_of(alloc, limits, signals, graph, place_tokens)?;
     Ok(Spec::new(net, names))
 }
 
-/// What a marking marks, and nothing where there is no marking.
-fn marks_in<'a>(
+/// The places that a marking names with their tokens, and none where there is no marking.
+fn place_tokens_in<'a>(
     alloc: Global,
     signals: &Signals<'_>,
     marking: &Option<Marking<'a>>,
-) -> Result<Seq<Mark<'a>>, NoMemory>
+) -> Result<Seq<PlaceTokens<'a>>, NoMemory>
     requires { length signals.now < 2 ^ 32 }
-    ensures { IfOk result (λ marks. (p : PlaceAt) → marked.tokens_at (shown_marks marks) p ≡ readings.tokens_by (without_dummies signals.now) marking.now p) }
+    ensures { IfOk result (λ place_tokens. (p : PlaceAt) → listed.tokens_for (place_tokens_views place_tokens) p ≡ readings.tokens_by (without_dummies signals.now) marking.now p) }
 {
     match marking {
         None => Ok(Seq::new(alloc)),
         Some(marking) => {
-            let marks = marking.marks(alloc, signals)?;
-            Ok(marks)
+            let place_tokens = marking.place_tokens(alloc, signals)?;
+            Ok(place_tokens)
         }
     }
 }
@@ -315,8 +315,8 @@ fn marks_in<'a>(
 /// The specification of what the lines say.
 pub fn finish<'a>(alloc: Global, limits: &Limits, reader: Reader<'a>) -> Result<Spec, NoMemory>
     requires limits { AreLimits limits.now }
-    requires kept { IsKept limits.now (known_of reader) }
-    ensures spec { IfOk result (λ s. readings.IsSpecOf (readings.meaning_of (known_of reader.entry)) s) }
+    requires faultless { IsFaultless limits.now (said_of reader) }
+    ensures spec { IfOk result (λ s. readings.IsSpecOf (readings.meaning_of (said_of reader.entry)) s) }
     ensures within { IfOk result (λ s. IsWithin limits.now s.net) }
 {
     let Reader {
@@ -327,7 +327,7 @@ pub fn finish<'a>(alloc: Global, limits: &Limits, reader: Reader<'a>) -> Result<
         marking,
         settled: _,
     } = reader;
-    let marks = marks_in(alloc, &signals, &marking)?;
-    let spec = build(alloc, limits, signals, graph, marks.as_slice())?;
+    let place_tokens = place_tokens_in(alloc, &signals, &marking)?;
+    let spec = build(alloc, limits, signals, graph, place_tokens.as_slice())?;
     Ok(spec)
 }

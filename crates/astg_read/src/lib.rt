@@ -4,23 +4,23 @@
 mod entries;
 mod faults;
 mod finish;
-mod graph;
 mod kinds;
 mod laws;
 mod line_error;
 mod marking;
-mod marks;
+mod marking_check;
 mod names;
 mod nodes;
-mod pairs;
+mod place_tokens;
 mod read;
 mod reader;
 mod rule;
-mod settled;
 mod signals;
 mod targets;
 #[cfg(test)]
 mod tests;
+mod text_arcs;
+mod text_graph;
 
 pub use laws::law_accepted;
 pub use read::{read_part, read_spec, read_with};

@@ -4,15 +4,15 @@ ghost use Rattle.std.specs.Prelude.{◌≡◌, ◌++◌, ◌∷◌, ◌≤◌, �
 ghost use Rattle.std.specs.List.{list_any};
 ghost use Rattle.astg_read.specs.Header.{without_dummies};
 ghost use Rattle.astg_read.specs.Markings as markings;
-ghost use Rattle.astg_read.specs.Marks as marked;
-ghost use Rattle.astg_read.specs.Settled.{IsSettled};
-ghost use Rattle.astg_read.specs.Shown.{shown_words, shown_marks, texts};
+ghost use Rattle.astg_read.specs.PlaceTokens as listed;
+ghost use Rattle.astg_read.specs.MarkingCheck.{IsSettled};
+ghost use Rattle.astg_read.specs.Views.{slices_view, place_tokens_views, texts};
 
 use crate::entries::entries_of;
-use crate::graph::Graph;
-use crate::marks::{Mark, marks_of};
-use crate::settled::Settled;
+use crate::marking_check::MarkingCheck;
+use crate::place_tokens::{PlaceTokens, place_tokens_of};
 use crate::signals::Signals;
+use crate::text_graph::TextGraph;
 use astg_lex::Word;
 use std::alloc::Global;
 use std::marker::Model;
@@ -32,7 +32,7 @@ fn is_closing(word: &[u8]) -> bool
 
 /// How many words stand before the first `}`.
 fn close_length(words: &[&[u8]]) -> usize
-    ensures value { result ≡ markings.close_length (shown_words words.now) }
+    ensures value { result ≡ markings.close_length (slices_view words.now) }
     ensures most { result ≤ length words.now }
 {
     for (i, word) in words.iter().enumerate() {
@@ -45,9 +45,9 @@ fn close_length(words: &[&[u8]]) -> usize
 
 /// The same, where none of the first words is one.
 fn close_length_after(first: usize, words: &[&[u8]]) -> usize
-    requires least { first ≤ markings.close_length (shown_words words.now) }
+    requires least { first ≤ markings.close_length (slices_view words.now) }
     requires within { first ≤ length words.now }
-    ensures value { result ≡ markings.close_length (shown_words words.now) }
+    ensures value { result ≡ markings.close_length (slices_view words.now) }
     ensures most { result ≤ length words.now }
 {
     first + close_length(&words[first..])
@@ -57,14 +57,14 @@ fn close_length_after(first: usize, words: &[&[u8]]) -> usize
 fn is_bad_marking<'a>(
     most: u32,
     signals: &Signals<'_>,
-    graph: &Graph<'_>,
-    settled: &mut Settled<'a>,
+    graph: &TextGraph<'_>,
+    settled: &mut MarkingCheck<'a>,
     words: &[&'a [u8]],
 ) -> Result<bool, NoMemory>
     requires small { length signals.now < 2 ^ 32 }
-    requires settled { IsSettled most (without_dummies signals.now) graph.now.places settled.old (markings.before_close (drop 1 (shown_words words.now))) }
-    ensures bad { IfOk result (λ is_bad. is_bad ≡ markings.is_bad_marking most (without_dummies signals.now) graph.now.places (shown_words words.now)) }
-    ensures settled { OnOk result (IsSettled most (without_dummies signals.now) graph.now.places settled.new (markings.before_close (drop 1 (shown_words words.now)))) }
+    requires settled { IsSettled most (without_dummies signals.now) graph.now.places settled.old (markings.before_close (drop 1 (slices_view words.now))) }
+    ensures bad { IfOk result (λ is_bad. is_bad ≡ markings.is_bad_marking most (without_dummies signals.now) graph.now.places (slices_view words.now)) }
+    ensures settled { OnOk result (IsSettled most (without_dummies signals.now) graph.now.places settled.new (markings.before_close (drop 1 (slices_view words.now)))) }
 {
     if words.is_empty() {
         return Ok(false);
@@ -84,14 +84,14 @@ fn is_bad_marking<'a>(
 
 /// The words before the first `}`.
 fn before_close<'w, 'a>(words: &'w [&'a [u8]]) -> &'w [&'a [u8]]
-    ensures { shown_words result.now ≡ markings.before_close (shown_words words.now) }
+    ensures { slices_view result.now ≡ markings.before_close (slices_view words.now) }
 {
     &words[..close_length(words)]
 }
 
 /// The words between `{` and `}`.
 fn entry_words<'w, 'a>(words: &'w [&'a [u8]]) -> &'w [&'a [u8]]
-    ensures { shown_words result.now ≡ markings.before_close (drop 1 (shown_words words.now)) }
+    ensures { slices_view result.now ≡ markings.before_close (drop 1 (slices_view words.now)) }
 {
     match words {
         [] => words,
@@ -111,13 +111,13 @@ impl<'a> Model for Marking<'a> {
     ghost use Rattle.std.specs.List.{list_any};
     ghost use Rattle.astg_read.specs.Markings.{is_closing};
     ghost use Rattle.astg_read.specs.Rows.{Row};
-    ghost use Rattle.astg_read.specs.Shown.{shown_words};
+    ghost use Rattle.astg_read.specs.Views.{slices_view};
 
     ghost Value = { Row };
 
-    ghost view = { λ m. shown_words m.words };
+    ghost view = { λ m. slices_view m.words };
 
-    ghost invariant = { λ m. m.closed ≡ list_any is_closing (shown_words m.words) };
+    ghost invariant = { λ m. m.closed ≡ list_any is_closing (slices_view m.words) };
 }
 
 impl<'a> Marking<'a> {
@@ -163,8 +163,8 @@ impl<'a> Marking<'a> {
         &self,
         most: u32,
         signals: &Signals<'_>,
-        graph: &Graph<'_>,
-        settled: &mut Settled<'a>,
+        graph: &TextGraph<'_>,
+        settled: &mut MarkingCheck<'a>,
     ) -> Result<bool, NoMemory>
         requires small { length signals.now < 2 ^ 32 }
         requires settled { IsSettled most (without_dummies signals.now) graph.now.places settled.old (markings.before_close (drop 1 self.now)) }
@@ -174,13 +174,17 @@ impl<'a> Marking<'a> {
         is_bad_marking(most, signals, graph, settled, self.words.as_slice())
     }
 
-    /// What the entries mark, in order.
-    pub fn marks(&self, alloc: Global, signals: &Signals<'_>) -> Result<Seq<Mark<'a>>, NoMemory>
+    /// The places that the entries name, with their tokens, in order.
+    pub fn place_tokens(
+        &self,
+        alloc: Global,
+        signals: &Signals<'_>,
+    ) -> Result<Seq<PlaceTokens<'a>>, NoMemory>
         requires { length signals.now < 2 ^ 32 }
-        ensures { IfOk result (λ marks. shown_marks marks ≡ marked.marks_of (without_dummies signals.now) (markings.entries_of self.now)) }
+        ensures { IfOk result (λ place_tokens. place_tokens_views place_tokens ≡ listed.place_tokens_of (without_dummies signals.now) (markings.entries_of self.now)) }
     {
         let entries = entries_of(alloc, entry_words(self.words.as_slice()))?;
-        let marks = marks_of(alloc, signals, entries.as_slice())?;
-        Ok(marks)
+        let place_tokens = place_tokens_of(alloc, signals, entries.as_slice())?;
+        Ok(place_tokens)
     }
 }

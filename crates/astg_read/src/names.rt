@@ -4,7 +4,7 @@ ghost use Rattle.std.specs.Prelude.{◌≡◌, ◌≤◌, ◌<◌, true, length,
 ghost use Rattle.std.specs.List.{list_all, prefix_len};
 ghost use Rattle.stg_net.specs.Names as forms;
 ghost use Rattle.astg_read.specs.Names as names;
-ghost use Rattle.astg_read.specs.Shown.{shown_trans_word};
+ghost use Rattle.astg_read.specs.Views.{trans_word_view};
 
 use stg_net::Edge;
 
@@ -135,7 +135,7 @@ fn name_length(word: &[u8]) -> usize
 
 /// The parts of a transition word, where it is one.
 pub fn read_trans_word(word: &[u8]) -> Option<TransWord<'_>>
-    ensures value { option_map shown_trans_word result ≡ names.read_trans_word word.now }
+    ensures value { option_map trans_word_view result ≡ names.read_trans_word word.now }
     ensures within { IfSome result (λ w. w.index < 1000000000) }
 {
     let (name, rest) = word.split_at(name_length(word));

@@ -3,7 +3,7 @@
 ghost use Rattle.std.specs.Prelude.{◌≡◌, ◌<◌, ◌^◌, [], length};
 ghost use Rattle.astg_read.specs.Header.{without_dummies};
 ghost use Rattle.astg_read.specs.Nodes as nodes;
-ghost use Rattle.astg_read.specs.Shown.{shown_node};
+ghost use Rattle.astg_read.specs.Views.{node_view};
 
 use crate::names::{is_name, read_trans_word};
 use crate::signals::Signals;
@@ -31,9 +31,9 @@ pub fn is_node(word: &[u8]) -> bool
 }
 
 /// The transition of a declared signal for which a word stands.
-pub fn trans_of(signals: &Signals<'_>, word: &[u8]) -> Option<TransName>
+pub fn trans_of_word(signals: &Signals<'_>, word: &[u8]) -> Option<TransName>
     requires { length signals.now < 2 ^ 32 }
-    ensures { result ≡ nodes.trans_of (without_dummies signals.now) word.now }
+    ensures { result ≡ nodes.trans_of_word (without_dummies signals.now) word.now }
 {
     match read_trans_word(word) {
         Some(parts) => match signals.find(parts.name) {
@@ -53,7 +53,7 @@ pub fn is_unknown(signals: &Signals<'_>, word: &[u8]) -> bool
     requires { length signals.now < 2 ^ 32 }
     ensures { result ≡ nodes.is_unknown (without_dummies signals.now) word.now }
 {
-    read_trans_word(word).is_some() && trans_of(signals, word).is_none()
+    read_trans_word(word).is_some() && trans_of_word(signals, word).is_none()
 }
 
 /// Whether a word is the name of a signal.
@@ -67,9 +67,9 @@ pub fn is_signal(signals: &Signals<'_>, word: &[u8]) -> bool
 /// The node for which a word stands.
 pub fn node_of<'a>(signals: &Signals<'_>, word: &'a [u8]) -> Node<'a>
     requires { length signals.now < 2 ^ 32 }
-    ensures { shown_node result ≡ nodes.node_of (without_dummies signals.now) word.now }
+    ensures { node_view result ≡ nodes.node_of (without_dummies signals.now) word.now }
 {
-    match trans_of(signals, word) {
+    match trans_of_word(signals, word) {
         Some(trans) => Node::Trans(trans),
         None => Node::Place(word),
     }

@@ -5,11 +5,11 @@ ghost use Rattle.astg_lex.specs.Lines as all_lines;
 ghost use Rattle.stg_net.specs.Names.{IsWellNamed};
 ghost use Rattle.stg_net.specs.Net.{IsWithin};
 ghost use Rattle.stg_net.specs.declared.limits.TheConstants.Limits.{PART, SPEC};
-ghost use Rattle.astg_read.specs.Built.{AreLimits};
+ghost use Rattle.astg_read.specs.Construction.{AreLimits};
 ghost use Rattle.astg_read.specs.Reading.{meaning_of, reading};
 ghost use Rattle.astg_read.specs.Reading as readings;
 ghost use Rattle.astg_read.specs.Standing.{IsUnreadBy, StandsFor, StandsForNet};
-ghost use Rattle.astg_read.specs.Taking.{Gives, IsKept, known_of, nothing};
+ghost use Rattle.astg_read.specs.LineResult.{Gives, IsFaultless, said_of, nothing};
 ghost use Rattle.std.specs.Prelude.{false, IfErr, IfOk, OnOk};
 
 use crate::finish::finish;
@@ -35,7 +35,7 @@ fn line_ends(text: &[u8]) -> u32
 }
 
 fn missing(reader: &Reader<'_>) -> Rule
-    ensures { result ≡ readings.missing (known_of reader.now).has_graph }
+    ensures { result ≡ readings.missing (said_of reader.now).has_graph }
 {
     if reader.has_graph {
         Rule::NoEnd
@@ -51,12 +51,12 @@ pub fn read_lines<'a>(
     limits: &Limits,
     text: &'a [u8],
 ) -> Result<(), ReadError>
-    requires start { known_of reader.old ≡ nothing }
+    requires start { said_of reader.old ≡ nothing }
     requires short { length text.now ≤ 16777216 }
     requires within { length text.now ≤ limits.now.bytes }
     requires small { limits.now.signals < 2 ^ 32 }
-    ensures gives { Gives (meaning_of (known_of reader.new)) result (reading false limits.now text.now) }
-    ensures kept { OnOk result (IsKept limits.now (known_of reader.new)) }
+    ensures gives { Gives (meaning_of (said_of reader.new)) result (reading false limits.now text.now) }
+    ensures faultless { OnOk result (IsFaultless limits.now (said_of reader.new)) }
 {
     let mut lines = astg_lex::lines(alloc, text);
     loop {

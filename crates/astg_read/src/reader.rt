@@ -6,22 +6,22 @@ ghost use Rattle.astg_read.specs.Header.{without_dummies};
 ghost use Rattle.astg_read.specs.Graphs.{arcs};
 ghost use Rattle.astg_read.specs.Markings.{before_close, is_bad_marking, is_closing, is_unfinished};
 ghost use Rattle.astg_read.specs.Rows.{begins, begins_with_dot};
-ghost use Rattle.astg_read.specs.Settled.{IsSettled};
-ghost use Rattle.astg_read.specs.Shown.{texts};
-ghost use Rattle.astg_read.specs.Taking.{Says, Takes, Marks, IsKept, IsSettledIn, nothing, known_of, directive, counted};
+ghost use Rattle.astg_read.specs.MarkingCheck.{IsSettled};
+ghost use Rattle.astg_read.specs.Views.{texts};
+ghost use Rattle.astg_read.specs.LineResult.{Says, Takes, ExtendsMarking, IsFaultless, IsSettledIn, nothing, said_of, directive, with_count};
 ghost use Rattle.astg_read.specs.Rules as line_rules;
 
 use crate::Rule;
-use crate::faults::{add_new_pairs, name_fault};
-use crate::graph::Graph;
+use crate::faults::{add_new_text_arcs, name_fault};
 use crate::kinds::{LineKind, kind_of};
 use crate::line_error::LineError;
 use crate::marking::Marking;
+use crate::marking_check::MarkingCheck;
 use crate::nodes::node_of;
-use crate::pairs::pairs_of;
-use crate::settled::Settled;
 use crate::signals::{Signals, add_names, are_names};
 use crate::targets::targets_of;
+use crate::text_arcs::text_arcs_of;
+use crate::text_graph::TextGraph;
 use astg_lex::Word;
 use std::alloc::Global;
 use stg_net::{Kind, Limits};
@@ -32,13 +32,13 @@ pub struct Reader<'a> {
     pub alloc: Global,
     pub has_graph: bool,
     pub signals: Signals<'a>,
-    pub graph: Graph<'a>,
+    pub graph: TextGraph<'a>,
     pub marking: Option<Marking<'a>>,
-    pub settled: Settled<'a>,
+    pub settled: MarkingCheck<'a>,
 }
 
-fn has_too_many_arcs(graph: &Graph<'_>, limits: &Limits) -> bool
-    ensures { result ≡ nat_lt limits.now.arcs (length (arcs graph.now.trans graph.now.places graph.now.pairs)) }
+fn has_too_many_arcs(graph: &TextGraph<'_>, limits: &Limits) -> bool
+    ensures { result ≡ nat_lt limits.now.arcs (length (arcs graph.now.trans graph.now.places graph.now.text_arcs)) }
 {
     graph.arc_count() > limits.arcs as u64
 }
@@ -55,22 +55,22 @@ fn is_end(words: &[Word<'_>]) -> bool
 impl<'a> Reader<'a> {
     /// A reader before the first line.
     pub fn new(alloc: Global) -> Self
-        ensures { known_of result ≡ nothing }
+        ensures { said_of result ≡ nothing }
     {
         Reader {
             alloc,
             has_graph: false,
             signals: Signals::new(alloc),
-            graph: Graph::new(alloc),
+            graph: TextGraph::new(alloc),
             marking: None,
-            settled: Settled::new(alloc),
+            settled: MarkingCheck::new(alloc),
         }
     }
 
     /// Takes a title, which isn't kept.
     fn take_title(&mut self, most: u32, title: &[u8], words: &[Word<'a>]) -> Result<(), LineError>
         requires { (title.now ≡ codes ".model") ⊎ (title.now ≡ codes ".name") }
-        ensures { Says most (known_of self.old) (title.now ∷ texts words.now) result (known_of self.new) }
+        ensures { Says most (said_of self.old) (title.now ∷ texts words.now) result (said_of self.new) }
     {
         if self.has_graph {
             return Err(LineError::Broken(Rule::OutOfOrder));
@@ -80,7 +80,7 @@ impl<'a> Reader<'a> {
 
     /// Takes a line that declares signals of a kind.
     fn take_names(&mut self, most: u32, kind: Kind, names: &[Word<'a>]) -> Result<(), LineError>
-        ensures { Says most (known_of self.old) (directive kind ∷ texts names.now) result (known_of self.new) }
+        ensures { Says most (said_of self.old) (directive kind ∷ texts names.now) result (said_of self.new) }
     {
         if self.has_graph {
             return Err(LineError::Broken(Rule::OutOfOrder));
@@ -96,7 +96,7 @@ impl<'a> Reader<'a> {
 
     /// Takes `.graph`.
     fn take_graph(&mut self, most: u32, words: &[Word<'a>]) -> Result<(), LineError>
-        ensures { Says most (known_of self.old) (codes ".graph" ∷ texts words.now) result (known_of self.new) }
+        ensures { Says most (said_of self.old) (codes ".graph" ∷ texts words.now) result (said_of self.new) }
     {
         if self.has_graph {
             return Err(LineError::Broken(Rule::OutOfOrder));
@@ -117,7 +117,7 @@ impl<'a> Reader<'a> {
     ) -> Result<(), LineError>
         requires few { length self.old.signals < 2 ^ 32 }
         requires nodes { begins_with_dot source.now ≡ false }
-        ensures { Says most (known_of self.old) (source.now ∷ texts words.now) result (known_of self.new) }
+        ensures { Says most (said_of self.old) (source.now ∷ texts words.now) result (said_of self.new) }
     {
         if !self.has_graph || self.marking.is_some() {
             return Err(LineError::Broken(Rule::OutOfOrder));
@@ -126,31 +126,31 @@ impl<'a> Reader<'a> {
         if let Some(rule) = name_fault(&self.signals, source, targets.as_slice()) {
             return Err(LineError::Broken(rule));
         }
-        let pairs = pairs_of(self.alloc, &self.signals, source, targets.as_slice())?;
-        if let Some(rule) = add_new_pairs(
+        let text_arcs = text_arcs_of(self.alloc, &self.signals, source, targets.as_slice())?;
+        if let Some(rule) = add_new_text_arcs(
             &mut self.graph,
             most,
             targets.as_slice(),
-            pairs.as_slice(),
+            text_arcs.as_slice(),
         )? {
             return Err(LineError::Broken(rule));
         }
         self.graph.add_node(&node_of(&self.signals, source))?;
-        self.graph.add_targets(pairs.as_slice())?;
+        self.graph.add_targets(text_arcs.as_slice())?;
         Ok(())
     }
 
     /// Takes `.marking`.
     fn take_marking(&mut self, most: u32, words: &[Word<'a>]) -> Result<(), LineError>
         requires few { length self.old.signals < 2 ^ 32 }
-        ensures { Says most (known_of self.old) (codes ".marking" ∷ texts words.now) result (known_of self.new) }
+        ensures { Says most (said_of self.old) (codes ".marking" ∷ texts words.now) result (said_of self.new) }
     {
         if !self.has_graph || self.marking.is_some() {
             return Err(LineError::Broken(Rule::OutOfOrder));
         }
         let mut marking = Marking::new(self.alloc);
         marking.extend(words)?;
-        let mut settled = Settled::new(self.alloc);
+        let mut settled = MarkingCheck::new(self.alloc);
         if marking.is_bad(most, &self.signals, &self.graph, &mut settled)? {
             return Err(LineError::Broken(Rule::BadMarking));
         }
@@ -160,8 +160,8 @@ impl<'a> Reader<'a> {
 
     /// Takes `.end`.
     fn take_end(&mut self, most: u32, words: &[Word<'a>]) -> Result<(), LineError>
-        requires { is_unfinished (known_of self.old).marking ≡ false }
-        ensures { Says most (known_of self.old) (codes ".end" ∷ texts words.now) result (known_of self.new) }
+        requires { is_unfinished (said_of self.old).marking ≡ false }
+        ensures { Says most (said_of self.old) (codes ".end" ∷ texts words.now) result (said_of self.new) }
     {
         if !self.has_graph {
             return Err(LineError::Broken(Rule::NoGraph));
@@ -171,7 +171,7 @@ impl<'a> Reader<'a> {
 
     /// Whether there are too many of a kind.
     fn has_too_many(&self, limits: &Limits) -> bool
-        ensures { result ≡ line_rules.has_too_many limits.now (known_of self.now) }
+        ensures { result ≡ line_rules.has_too_many limits.now (said_of self.now) }
     {
         self.signals.len() > limits.signals as usize
             || self.graph.trans_count() > limits.trans as usize
@@ -180,7 +180,7 @@ impl<'a> Reader<'a> {
     }
 
     fn count(&self, limits: &Limits, said: Result<(), LineError>) -> Result<(), LineError>
-        ensures { result ≡ counted (line_rules.has_too_many limits.now (known_of self.now)) said }
+        ensures { result ≡ with_count (line_rules.has_too_many limits.now (said_of self.now)) said }
     {
         match said {
             Ok(()) => {
@@ -196,8 +196,8 @@ impl<'a> Reader<'a> {
 
     /// Takes a line that declares dummies, which may have no names.
     fn take_dummies(&mut self, limits: &Limits, names: &[Word<'a>]) -> Result<(), LineError>
-        requires { is_unfinished (known_of self.old).marking ≡ false }
-        ensures { Takes limits.now (known_of self.old) (codes ".dummy" ∷ texts names.now) result (known_of self.new) }
+        requires { is_unfinished (said_of self.old).marking ≡ false }
+        ensures { Takes limits.now (said_of self.old) (codes ".dummy" ∷ texts names.now) result (said_of self.new) }
     {
         if self.has_graph {
             return Err(LineError::Broken(Rule::OutOfOrder));
@@ -215,7 +215,7 @@ impl<'a> Reader<'a> {
     }
 
     fn is_in_marking(&self) -> bool
-        ensures { result ≡ is_unfinished (known_of self.now).marking }
+        ensures { result ≡ is_unfinished (said_of self.now).marking }
     {
         match &self.marking {
             None => false,
@@ -225,18 +225,18 @@ impl<'a> Reader<'a> {
 
     /// Whether a line ends the text.
     pub fn ends_text(&self, words: &[Word<'_>]) -> bool
-        ensures { result ≡ line_rules.ends_text (known_of self.now) (texts words.now) }
+        ensures { result ≡ line_rules.ends_text (said_of self.now) (texts words.now) }
     {
         is_end(words) && !self.is_in_marking()
     }
 
     /// Takes a line inside a marking.
-    fn take_marked(&mut self, limits: &Limits, words: &[Word<'a>]) -> Result<(), LineError>
+    fn take_in_marking(&mut self, limits: &Limits, words: &[Word<'a>]) -> Result<(), LineError>
         requires small { length self.old.signals < 2 ^ 32 }
-        requires kept { IsKept limits.now (known_of self.old) }
-        requires inside { is_unfinished (known_of self.old).marking ≡ true }
+        requires faultless { IsFaultless limits.now (said_of self.old) }
+        requires inside { is_unfinished (said_of self.old).marking ≡ true }
         requires settled { IsSettledIn limits.now.weight self.old }
-        ensures takes { Takes limits.now (known_of self.old) (texts words.now) result (known_of self.new) }
+        ensures takes { Takes limits.now (said_of self.old) (texts words.now) result (said_of self.new) }
         ensures settled { OnOk result (IsSettledIn limits.now.weight self.new) }
     {
         if words.is_empty() {
@@ -263,8 +263,8 @@ impl<'a> Reader<'a> {
         rest: &[Word<'a>],
     ) -> Result<(), LineError>
         requires small { length self.old.signals < 2 ^ 32 }
-        requires outside { is_unfinished (known_of self.old).marking ≡ false }
-        ensures { Takes limits.now (known_of self.old) (first.now ∷ texts rest.now) result (known_of self.new) }
+        requires outside { is_unfinished (said_of self.old).marking ≡ false }
+        ensures { Takes limits.now (said_of self.old) (first.now ∷ texts rest.now) result (said_of self.new) }
     {
         let most = limits.weight;
         match kind_of(first) {
@@ -299,8 +299,8 @@ impl<'a> Reader<'a> {
 
     /// Takes a line without words outside a marking.
     fn take_nothing(&mut self, limits: &Limits) -> Result<(), LineError>
-        requires { is_unfinished (known_of self.old).marking ≡ false }
-        ensures { Takes limits.now (known_of self.old) [] result (known_of self.new) }
+        requires { is_unfinished (said_of self.old).marking ≡ false }
+        ensures { Takes limits.now (said_of self.old) [] result (said_of self.new) }
     {
         self.count(limits, Ok(()))
     }
@@ -308,8 +308,8 @@ impl<'a> Reader<'a> {
     /// Takes a line outside a marking.
     fn take_outside(&mut self, limits: &Limits, words: &[Word<'a>]) -> Result<(), LineError>
         requires small { length self.old.signals < 2 ^ 32 }
-        requires outside { is_unfinished (known_of self.old).marking ≡ false }
-        ensures { Takes limits.now (known_of self.old) (texts words.now) result (known_of self.new) }
+        requires outside { is_unfinished (said_of self.old).marking ≡ false }
+        ensures { Takes limits.now (said_of self.old) (texts words.now) result (said_of self.new) }
     {
         match words {
             [] => self.take_nothing(limits),
@@ -320,16 +320,16 @@ impl<'a> Reader<'a> {
     /// Takes the next line, or tells the rule that it breaks first.
     pub fn take_line(&mut self, limits: &Limits, words: &[Word<'a>]) -> Result<(), LineError>
         requires small { limits.now.signals < 2 ^ 32 }
-        requires kept { IsKept limits.now (known_of self.old) }
+        requires faultless { IsFaultless limits.now (said_of self.old) }
         requires settled { IsSettledIn limits.now.weight self.old }
-        ensures takes { Takes limits.now (known_of self.old) (texts words.now) result (known_of self.new) }
+        ensures takes { Takes limits.now (said_of self.old) (texts words.now) result (said_of self.new) }
         ensures settled { OnOk result (IsSettledIn limits.now.weight self.new) }
     {
         if self.is_in_marking() {
-            return self.take_marked(limits, words);
+            return self.take_in_marking(limits, words);
         }
         let taken = self.take_outside(limits, words);
-        self.settled = Settled::new(self.alloc);
+        self.settled = MarkingCheck::new(self.alloc);
         taken
     }
 }
@@ -338,15 +338,15 @@ impl<'a> Reader<'a> {
 fn extend_marking<'a>(
     most: u32,
     signals: &Signals<'a>,
-    graph: &Graph<'a>,
-    settled: &mut Settled<'a>,
+    graph: &TextGraph<'a>,
+    settled: &mut MarkingCheck<'a>,
     marking: &mut Marking<'a>,
     words: &[Word<'a>],
 ) -> Result<(), LineError>
     requires small { length signals.now < 2 ^ 32 }
     requires unfinished { list_any is_closing marking.old ≡ false }
     requires settled { IsSettled most (without_dummies signals.now) graph.now.places settled.old (before_close (drop 1 marking.old)) }
-    ensures marks { Marks (is_bad_marking most (without_dummies signals.now) graph.now.places (marking.old ++ texts words.now)) (marking.old ++ texts words.now) result marking.new }
+    ensures place_tokens { ExtendsMarking (is_bad_marking most (without_dummies signals.now) graph.now.places (marking.old ++ texts words.now)) (marking.old ++ texts words.now) result marking.new }
     ensures settled { OnOk result (IsSettled most (without_dummies signals.now) graph.now.places settled.new (before_close (drop 1 marking.new))) }
 {
     marking.extend(words)?;

@@ -5,10 +5,10 @@ ghost use Rattle.std.specs.List.{list_all, list_any};
 ghost use Rattle.stg_net.specs.declared.builder.BuildError.TheVariants.{NoMemory as want};
 ghost use Rattle.stg_net.specs.Names as forms;
 ghost use Rattle.stg_net.specs.Net.{number_of};
-ghost use Rattle.astg_read.specs.Built.{with_all_signals};
+ghost use Rattle.astg_read.specs.Construction.{with_all_signals};
 ghost use Rattle.astg_read.specs.Header.{same_name, signals_of};
-ghost use Rattle.astg_read.specs.Lists.{added, stands_again};
-ghost use Rattle.astg_read.specs.Shown.{texts};
+ghost use Rattle.astg_read.specs.Lists.{with_new, has_repeat};
+ghost use Rattle.astg_read.specs.Views.{texts};
 
 use crate::names::is_name;
 use astg_lex::Word;
@@ -26,11 +26,11 @@ pub struct Signals<'a> {
 impl<'a> Model for Signals<'a> {
     ghost use Rattle.std.specs.Prelude.{List, map};
     ghost use Rattle.stg_net.specs.declared.signal.Signal.{Signal};
-    ghost use Rattle.astg_read.specs.Shown.{shown_signal};
+    ghost use Rattle.astg_read.specs.Views.{signal_view};
 
     ghost Value = { List Signal };
 
-    ghost view = { λ s. map shown_signal s.kinds.entries };
+    ghost view = { λ s. map signal_view s.kinds.entries };
 }
 
 impl<'a> Signals<'a> {
@@ -65,7 +65,7 @@ impl<'a> Signals<'a> {
     /// Adds a signal last, and tells whether its name is new.
     pub fn add(&mut self, name: &'a [u8], kind: Kind) -> Result<bool, NoMemory>
         ensures fresh { IfOk result (λ is_new. is_new ≡ not (list_any (same_name (record { name = name.now; kind = kind })) self.old)) }
-        ensures ok { OnOk result (self.new ≡ added same_name self.old (record { name = name.now; kind = kind })) }
+        ensures ok { OnOk result (self.new ≡ with_new same_name self.old (record { name = name.now; kind = kind })) }
     {
         match self.kinds.get_index_of(name) {
             Some(_) => Ok(false),
@@ -78,7 +78,7 @@ impl<'a> Signals<'a> {
 
     /// Adds the signals to a net without any, where their names differ.
     pub fn add_to(self, builder: &mut NetBuilder) -> Result<(), NoMemory>
-        requires differ { stands_again same_name [] self ≡ false }
+        requires differ { has_repeat same_name [] self ≡ false }
         requires none { builder.old.lists.signals ≡ [] }
         requires room { length builder.old.lists.signals + length self ≤ builder.old.limits.signals }
         ensures { OnOk result (builder.new ≡ with_all_signals builder.old self.entry) }
@@ -112,7 +112,7 @@ pub fn add_names<'a>(
     kind: Kind,
     names: &[Word<'a>],
 ) -> Result<bool, NoMemory>
-    ensures fresh { IfOk result (λ all_new. all_new ≡ not (stands_again same_name signals.old (signals_of kind (texts names.now)))) }
+    ensures fresh { IfOk result (λ all_new. all_new ≡ not (has_repeat same_name signals.old (signals_of kind (texts names.now)))) }
     ensures ok { IfOk result (λ all_new. IsTrue all_new → signals.new ≡ signals.old ++ signals_of kind (texts names.now)) }
 {
     for name in names {

@@ -4,7 +4,7 @@ ghost use Rattle.std.specs.Prelude.{◌≡◌, ◌≤◌, ◌<◌, ◌^◌, [], 
 ghost use Rattle.std.specs.List.{list_all, list_any};
 ghost use Rattle.astg_read.specs.Header.{without_dummies};
 ghost use Rattle.astg_read.specs.Nodes as nodes;
-ghost use Rattle.astg_read.specs.Shown.{shown_target, shown_targets, texts};
+ghost use Rattle.astg_read.specs.Views.{target_view, target_views, texts};
 ghost use Rattle.astg_read.specs.Targets.{front_target, target_words, targets_after, words_in};
 ghost use Rattle.astg_read.specs.Targets as forms;
 
@@ -49,7 +49,7 @@ fn group_at<'w, 'a>(words: &'w [Word<'a>]) -> &'w [Word<'a>]
 /// The target in front, and how many words it takes.
 fn front<'w, 'a>(words: &'w [Word<'a>]) -> (Target<'w, 'a>, usize)
     requires { 0 < length words.now }
-    ensures target { shown_target result.0 ≡ front_target (texts words.now) }
+    ensures target { target_view result.0 ≡ front_target (texts words.now) }
     ensures count { result.1 ≡ target_words (texts words.now) }
     ensures least { 1 ≤ result.1 }
     ensures most { result.1 ≤ length words.now }
@@ -69,7 +69,7 @@ pub fn targets_of<'w, 'a>(
     alloc: Global,
     words: &'w [Word<'a>],
 ) -> Result<Seq<Target<'w, 'a>>, NoMemory>
-    ensures { IfOk result (λ targets. shown_targets targets ≡ targets_after zero (texts words.now)) }
+    ensures { IfOk result (λ targets. target_views targets ≡ targets_after zero (texts words.now)) }
 {
     let mut targets = Seq::new(alloc);
     let mut rest = words;
@@ -83,7 +83,7 @@ pub fn targets_of<'w, 'a>(
 
 /// Whether each target is a node.
 pub fn are_nodes(targets: &[Target<'_, '_>]) -> bool
-    ensures { result ≡ list_all (nodes.is_node (without_dummies [])) (words_in (shown_targets targets.now)) }
+    ensures { result ≡ list_all (nodes.is_node (without_dummies [])) (words_in (target_views targets.now)) }
 {
     for target in targets {
         if let Some(word) = target.word {
@@ -98,7 +98,7 @@ pub fn are_nodes(targets: &[Target<'_, '_>]) -> bool
 /// Whether a target has the form of a transition but stands for none.
 pub fn have_unknown(signals: &Signals<'_>, targets: &[Target<'_, '_>]) -> bool
     requires { length signals.now < 2 ^ 32 }
-    ensures { result ≡ list_any (nodes.is_unknown (without_dummies signals.now)) (words_in (shown_targets targets.now)) }
+    ensures { result ≡ list_any (nodes.is_unknown (without_dummies signals.now)) (words_in (target_views targets.now)) }
 {
     for target in targets {
         if let Some(word) = target.word {
@@ -113,7 +113,7 @@ pub fn have_unknown(signals: &Signals<'_>, targets: &[Target<'_, '_>]) -> bool
 /// Whether a target is the name of a signal.
 pub fn have_signal(signals: &Signals<'_>, targets: &[Target<'_, '_>]) -> bool
     requires { length signals.now < 2 ^ 32 }
-    ensures { result ≡ list_any (nodes.is_signal (without_dummies signals.now)) (words_in (shown_targets targets.now)) }
+    ensures { result ≡ list_any (nodes.is_signal (without_dummies signals.now)) (words_in (target_views targets.now)) }
 {
     for target in targets {
         if let Some(word) = target.word {
@@ -126,8 +126,8 @@ pub fn have_signal(signals: &Signals<'_>, targets: &[Target<'_, '_>]) -> bool
 }
 
 /// The number in a weight group.
-pub fn weight_of(group: &[Word<'_>]) -> Option<u32>
-    ensures { result ≡ forms.weight_of (texts group.now) }
+pub fn group_weight(group: &[Word<'_>]) -> Option<u32>
+    ensures { result ≡ forms.group_weight (texts group.now) }
 {
     match group {
         [open, weight, close] if opens_group(open.text) && closes_group(close.text) => {
@@ -147,14 +147,15 @@ fn is_weight(most: u32, weight: Option<u32>) -> bool
 }
 
 fn is_good_group(most: u32, target: &Target<'_, '_>) -> bool
-    ensures { result ≡ forms.is_good_group most (shown_target target.now) }
+    ensures { result ≡ forms.is_good_group most (target_view target.now) }
 {
-    target.group.is_empty() || (target.word.is_some() && is_weight(most, weight_of(target.group)))
+    target.group.is_empty()
+        || (target.word.is_some() && is_weight(most, group_weight(target.group)))
 }
 
 /// Whether each weight group stands after a target and holds a weight.
 pub fn are_weighed(most: u32, targets: &[Target<'_, '_>]) -> bool
-    ensures { result ≡ list_all (forms.is_good_group most) (shown_targets targets.now) }
+    ensures { result ≡ list_all (forms.is_good_group most) (target_views targets.now) }
 {
     for target in targets {
         if !is_good_group(most, target) {

@@ -5,7 +5,7 @@ use Rattle.std.proofs.lemmas.List.Elements.{All-nil, All-cons, All-head, All-tai
 use Rattle.std.specs.List.{list_any}
 use Rattle.stg_net.specs.declared.arc.NetArc.{NetArc}
 use Rattle.stg_net.specs.Ordered.{listed_below, least_giver}
-use Rattle.astg_read.specs.Lists.{added, firsts}
+use Rattle.astg_read.specs.Lists.{with_new, firsts}
 use Rattle.astg_write.proofs.Listed.{any-listed, any-listed_none}
 
 -- how many numbers below m, from 0 on, have a key below t, where keys don't fall
@@ -61,11 +61,11 @@ module _ {X : Type 0} (same : X → X → Bool) (g : ℕ → X) (n : ℕ) (itsel
   abbrev seen : ℕ → List X
   seen c = listed_below (λ i. g i ∷ []) c
 
-  pub added-old : (c q : ℕ) → c ≤ n → q < c → added same (seen c) (g q) ≡ seen c
-  added-old c q within b = ap (λ t. cond t (seen c) (seen c ++ g q ∷ [])) (any-listed (same (g q)) g c q b (itself q (omega (arith, b, within))))
+  pub with_new-old : (c q : ℕ) → c ≤ n → q < c → with_new same (seen c) (g q) ≡ seen c
+  with_new-old c q within b = ap (λ t. cond t (seen c) (seen c ++ g q ∷ [])) (any-listed (same (g q)) g c q b (itself q (omega (arith, b, within))))
 
-  pub added-new : (c : ℕ) → c < n → added same (seen c) (g c) ≡ seen (suc c)
-  added-new c within = ap (λ t. cond t (seen c) (seen c ++ g c ∷ []))
+  pub with_new-new : (c : ℕ) → c < n → with_new same (seen c) (g c) ≡ seen (suc c)
+  with_new-new c within = ap (λ t. cond t (seen c) (seen c ++ g c ∷ []))
       (any-listed_none (same (g c)) g c (λ k b. apart c k within (omega (arith, b, within)) (λ e. absurd (omega (arith, e, b)))))
 
   tail-rises : (q : ℕ) (qs : List ℕ) → AllPairs (λ a b. a < b) (q ∷ qs) → AllPairs (λ a b. a < b) qs
@@ -87,12 +87,12 @@ module _ {X : Type 0} (same : X → X → Bool) (g : ℕ → X) (n : ℕ) (itsel
     | inr k ↦ absurd (false≢true (there c (omega arith) (omega (arith, l, k))))
   ]
   firsts-rising c e (q ∷ qs) l within rise low there = elim (cases_lt q c) [
-    | inl k ↦ ap (λ s. firsts same s (map g qs)) (added-old c q (omega (arith, l, within)) k)
+    | inl k ↦ ap (λ s. firsts same s (map g qs)) (with_new-old c q (omega (arith, l, within)) k)
         ∙ firsts-rising c e qs l within (tail-rises q qs rise) (All-tail (λ r. r < e) q qs low)
         (λ p a b. sym (ap (λ t. t || list_any (λ r. r == p) qs) (ne_eqb q p (λ s. absurd (omega (arith, s, k, a))))) ∙ there p a b)
     | inr k ↦ (let s = next k in
-        ap (λ r. firsts same (added same (seen c) (g r)) (map g qs)) s
-        ∙ ap (λ z. firsts same z (map g qs)) (added-new c (omega (arith, s, below, within)))
+        ap (λ r. firsts same (with_new same (seen c) (g r)) (map g qs)) s
+        ∙ ap (λ z. firsts same z (map g qs)) (with_new-new c (omega (arith, s, below, within)))
         ∙ firsts-rising (suc c) e qs (omega (arith, s, below)) within (tail-rises q qs rise) (All-tail (λ r. r < e) q qs low)
         (λ p a b. sym (ap (λ t. t || list_any (λ r. r == p) qs) (ne_eqb q p (λ x. absurd (omega (arith, x, s, a))))) ∙ there p (omega (arith, a)) b))
   ]

@@ -12,7 +12,7 @@ use Rattle.std.specs.Str.{bytes_eq}
 use Rattle.std.specs.Prelude.{codes, decimal}
 use Rattle.stg_net.specs.declared.signal.Signal.{Signal}
 use Rattle.stg_net.specs.Names.{is_digit, is_in_name, is_name}
-use Rattle.astg_write.specs.PlaceNames.{prefix_text, begins_with, is_free, prefix_number, place_prefix, place_name}
+use Rattle.astg_write.specs.PlaceNames.{prefix_text, begins_with, is_free, prefix_number, place_prefix, numbered_name}
 use Rattle.astg_write.proofs.WrittenWords.{all-append}
 use Rattle.astg_write.proofs.WordForms.{decimal-digits, digit-in_name, all-weaker}
 use Rattle.astg_write.proofs.NodeForms.{take-front}
@@ -143,16 +143,16 @@ module _ (ss : List Signal) (few : length ss ≤ 250) where
       by_case false = omega (arith, length-append (decimal k) (codes "_"), length-decimal-le 3 k (omega arith) (omega (arith, small)) (omega (arith, small)))
 
   -- how long a place's name is
-  pub place-length : (p : ℕ) → p < 9999 → length (place_name (place_prefix ss) p) ≤ 9
+  pub place-length : (p : ℕ) → p < 9999 → length (numbered_name (place_prefix ss) p) ≤ 9
   place-length p small =
       let k = prefix_number ss in
       let a = after-length k (omega (arith, number-below, few)) in
       let b = length-decimal-le 4 (p + 1) (omega arith) (omega (arith, small)) (omega (arith, small)) in
-      let c : length (place_name (place_prefix ss) p) ≡ length ((112 ∷ after_p k) ++ decimal (p + 1)) = ap (λ w. length (w ++ decimal (p + 1))) (prefix-shape k) in
+      let c : length (numbered_name (place_prefix ss) p) ≡ length ((112 ∷ after_p k) ++ decimal (p + 1)) = ap (λ w. length (w ++ decimal (p + 1))) (prefix-shape k) in
       omega (arith, a, b, c, length-append (112 ∷ after_p k) (decimal (p + 1)))
 
   -- a place's name is a name
-  pub place-named : (p : ℕ) → p < 9999 → is_name (place_name (place_prefix ss) p) ≡ true
+  pub place-named : (p : ℕ) → p < 9999 → is_name (numbered_name (place_prefix ss) p) ≡ true
   place-named p small =
       let k = prefix_number ss in
       let below : k < 1000 = omega (arith, number-below, few) in
@@ -165,8 +165,8 @@ module _ (ss : List Signal) (few : length ss ≤ 250) where
       (all-append is_in_name (after_p k) (decimal (p + 1)) (after-bytes k below) (digits-in_name (p + 1) (omega (arith, small))))
 
 -- places of two numbers have two names
-pub names-apart : (prefix : List ℕ) (p q : ℕ) → p < 9999 → q < 9999 → p ≢ q → bytes_eq (place_name prefix p) (place_name prefix q) ≡ false
-names-apart prefix p q a b differ = false_from_ne_true (bytes_eq (place_name prefix p) (place_name prefix q)) (λ h.
-    let e = append_cancel_left prefix (decimal (p + 1)) (decimal (q + 1)) ((bytes_eq-Decides (place_name prefix p) (place_name prefix q)).0 h) in
+pub names-apart : (prefix : List ℕ) (p q : ℕ) → p < 9999 → q < 9999 → p ≢ q → bytes_eq (numbered_name prefix p) (numbered_name prefix q) ≡ false
+names-apart prefix p q a b differ = false_from_ne_true (bytes_eq (numbered_name prefix p) (numbered_name prefix q)) (λ h.
+    let e = append_cancel_left prefix (decimal (p + 1)) (decimal (q + 1)) ((bytes_eq-Decides (numbered_name prefix p) (numbered_name prefix q)).0 h) in
     let s = decimal_injective (p + 1) (q + 1) (omega (arith, a)) (omega (arith, b)) e in
     differ (omega (arith, s)))

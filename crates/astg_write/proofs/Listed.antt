@@ -7,7 +7,7 @@ use Rattle.std.proofs.lemmas.List.Folds.{list_any-append}
 use Rattle.std.proofs.lemmas.List.Sums.{position_or_len_is}
 use Rattle.std.specs.List.{list_any, position_or_len}
 use Rattle.stg_net.specs.Ordered.{listed_below}
-use Rattle.astg_read.specs.Lists.{stands_again}
+use Rattle.astg_read.specs.Lists.{has_repeat}
 
 -- of two lists, none passes
 pub any-append_none : {X : Type 0} (f : X → Bool) (xs ys : List X) → list_any f xs ≡ false → list_any f ys ≡ false → list_any f (xs ++ ys) ≡ false
@@ -88,11 +88,11 @@ listed-agree f g zero h = refl
 listed-agree f g (suc n) h = λ j. listed-agree f g n (λ k b. h k (omega (arith, b))) j ++ h n (omega arith) j
 
 -- new ones that differ from the old ones and from each other
-pub again-none : {X : Type 0} (same : X → X → Bool) (old new : List X) → All (λ x. list_any (same x) old ≡ false) new → AllPairs (λ x y. same y x ≡ false) new → stands_again same old new ≡ false
+pub again-none : {X : Type 0} (same : X → X → Bool) (old new : List X) → All (λ x. list_any (same x) old ≡ false) new → AllPairs (λ x y. same y x ≡ false) new → has_repeat same old new ≡ false
 again-none {X} same old [] h apart = refl
 again-none {X} same old (x ∷ new) h apart =
     let P : X → Type 0 = λ y. list_any (same y) old ≡ false in
-    or_from (list_any (same x) old) (stands_again same (old ++ x ∷ []) new) (All-head P x new h)
+    or_from (list_any (same x) old) (has_repeat same (old ++ x ∷ []) new) (All-head P x new h)
     (again-none same (old ++ x ∷ []) new
     (λ k d b. any-append_none (same (get_or new k d)) old (x ∷ []) (All-tail P x new h k d b) (or_from (same (get_or new k d) x) false (apart 0 (suc k) d (omega arith) (omega (arith, b))) refl))
     (λ i j d l b. apart (suc i) (suc j) d (omega (arith, l)) (omega (arith, b))))

@@ -17,7 +17,7 @@ use Rattle.stg_net.specs.declared.trans.Edge.TheVariants.{Rise, Fall, Toggle}
 use Rattle.astg_read.specs.Rows.{Word, begins_with_dot}
 use Rattle.astg_read.specs.Names.{WordOfTrans, edge_of, index_of, change_of, read_trans_word}
 use Rattle.astg_read.specs.Header.{Declared, without_dummies}
-use Rattle.astg_read.specs.Nodes.{Node, Trans, Place, node_of, trans_or_place, is_node, is_unknown, is_signal, is_trans_word, with_number, trans_of}
+use Rattle.astg_read.specs.Nodes.{Node, Trans, Place, node_of, trans_or_place, is_node, is_unknown, is_signal, is_trans_word, with_number, trans_of_word}
 use Rattle.astg_read.specs.Targets.{opens_group}
 use Rattle.astg_read.proofs.NumberLemmas.{position-none}
 use Rattle.astg_write.proofs.WordForms.{name-bytes, number-decimal, not_at, not_at_back}
@@ -131,12 +131,12 @@ module _ (signals : List Signal) (named : All (λ (s : Signal). is_name s.name �
       let said : WordOfTrans = record { name = name; edge = e; index = k } in
       let d = without_dummies signals in
       let r = read-trans name e k h i in
-      let found : trans_of d w ≡ Some (record { signal = s; edge = e; index = k }) =
+      let found : trans_of_word d w ≡ Some (record { signal = s; edge = e; index = k }) =
       ap (λ o. option_and_then (with_number signals) o) r ∙ ap (λ o. option_map (λ n. record { signal = n; edge = e; index = k }) o) at in
       record {
         node = ap (trans_or_place w) found;
         formed = ap (λ o. is_some o || is_name w) r;
-        declared_there = and_right (is_some (read_trans_word w)) (is_none (trans_of d w)) (ap is_none found);
+        declared_there = and_right (is_some (read_trans_word w)) (is_none (trans_of_word d w)) (ap is_none found);
         apart = ap (λ o. is_some o && true) (position-none (λ (x : Signal). bytes_eq w x.name) signals (unnamed w said signals named r));
         opens = opens-name name (sign_of e ∷ index_text k) h;
         dot = dot-name name (sign_of e ∷ index_text k) h;
@@ -146,11 +146,11 @@ module _ (signals : List Signal) (named : All (λ (s : Signal). is_name s.name �
   word-place w h free =
       let d = without_dummies signals in
       let r = read-name w h in
-      let found : trans_of d w ≡ None = ap (λ o. option_and_then (with_number signals) o) r in
+      let found : trans_of_word d w ≡ None = ap (λ o. option_and_then (with_number signals) o) r in
       record {
         node = ap (trans_or_place w) found;
         formed = or_right (is_trans_word d w) (is_name w) h;
-        declared_there = ap (λ o. is_some o && is_none (trans_of d w)) r;
+        declared_there = ap (λ o. is_some o && is_none (trans_of_word d w)) r;
         apart = ap (λ o. is_some o && true) (position-none (λ (x : Signal). bytes_eq w x.name) signals free);
         opens = ap opens_group (sym (append-nil w)) ∙ opens-name w [] h;
         dot = ap begins_with_dot (sym (append-nil w)) ∙ dot-name w [] h;

@@ -17,15 +17,15 @@ use Rattle.astg_read.specs.Rows.{Row}
 use Rattle.astg_read.specs.Header.{without_dummies}
 use Rattle.astg_read.specs.Nodes.{same_trans, Trans, Place}
 use Rattle.astg_read.specs.Graphs.{PlaceAt, same_place, trans_number, place_number, arcs_of, arcs}
-use Rattle.astg_read.specs.Known.{Known}
-use Rattle.astg_read.specs.Markings.{tokens_in, is_closing, entries_of, is_unfinished}
+use Rattle.astg_read.specs.Said.{Said}
+use Rattle.astg_read.specs.Markings.{entry_tokens, is_closing, entries_of, is_unfinished}
 use Rattle.astg_read.specs.Rules.{has_too_many, breaks_marking}
 use Rattle.astg_read.specs.Reading.{tokens_by}
-use Rattle.astg_read.specs.Taking.{verdict}
+use Rattle.astg_read.specs.LineResult.{verdict}
 use Rattle.astg_read.specs.declared.rule.Rule.TheVariants.{OutOfOrder, BadMarking}
 use Rattle.astg_read.proofs.NumberLemmas.{same_trans-refl}
 use Rattle.astg_read.proofs.Verdicts.{fault-marking, fault-end, two}
-use Rattle.astg_write.specs.PlaceNames.{place_name}
+use Rattle.astg_write.specs.PlaceNames.{numbered_name}
 use Rattle.astg_write.specs.ComponentText.{comes_from, goes_out_of}
 use Rattle.astg_write.proofs.WrittenRows.{entry_words, marking_row, header_rows, graph_rows, model_row, trans_row, place_rows}
 use Rattle.astg_write.proofs.TakenRows.{Takes, Takes-append, Takes-one, verdict-good}
@@ -34,9 +34,9 @@ use Rattle.astg_write.proofs.Listed.{any-append_right, any-append_left, any-list
 use Rattle.astg_write.proofs.Appearing.{cut-most, cut-first}
 use Rattle.astg_write.proofs.WrittenArcs.{arcs_given, arcs_taken, written-arcs, AllPairs-filter, AllPairs-with}
 use Rattle.astg_write.proofs.Readable.{IsReadable, trans_at, trans-apart}
-use Rattle.astg_write.proofs.TakenNet.{in_graph_of, arc_pair, place_node, trans_node, named, trans_to, places_to, given_pairs, taken_pairs, pairs_at, at_trans, at_place, reached, place-apart, place-same, few-places, takes-transitions, takes-places, at-places}
+use Rattle.astg_write.proofs.TakenNet.{in_graph_of, text_arc_from, place_node, trans_node, named, trans_to, places_to, given_text_arcs, taken_text_arcs, text_arcs_at, at_trans, at_place, reached, place-apart, place-same, few-places, takes-transitions, takes-places, at-places}
 use Rattle.astg_write.proofs.TakenHeader.{heads, takes-model, takes-header, takes-graph}
-use Rattle.astg_write.proofs.TakenMarking.{numbers, marked, is_marked, IsGood, marking-good, entry_for, tokens-found}
+use Rattle.astg_write.proofs.TakenMarking.{numbers, places_with_tokens, has_tokens, IsGood, marking-good, entry_for, tokens-found}
 
 map-listed : {X Y : Type 0} (f : X → Y) (g : ℕ → X) (m : ℕ) → map f (listed_below (λ k. g k ∷ []) m) ≡ listed_below (λ k. f (g k) ∷ []) m
 map-listed f g zero = refl
@@ -54,14 +54,14 @@ numbers-rise m i j d l b = let h : j < m = omega (arith, length-listed (λ i. i)
     omega (arith, get-listed (λ i. i) m i d (omega (arith, l, h)), get-listed (λ i. i) m j d h, l)
 
 -- a place with tokens is among those with tokens
-marked-there : (prefix : List ℕ) (tokens : List ℕ) (m p : ℕ) → p < m → is_marked prefix tokens p ≡ true → list_any (λ q. q == p) (marked prefix tokens m) ≡ true
-marked-there prefix tokens zero p b h = absurd (omega (arith, b))
-marked-there prefix tokens (suc m) p b h =
-    ap (list_any (λ q. q == p)) (filter-append (is_marked prefix tokens) (numbers m) (m ∷ []))
+places_with_tokens-there : (prefix : List ℕ) (tokens : List ℕ) (m p : ℕ) → p < m → has_tokens prefix tokens p ≡ true → list_any (λ q. q == p) (places_with_tokens prefix tokens m) ≡ true
+places_with_tokens-there prefix tokens zero p b h = absurd (omega (arith, b))
+places_with_tokens-there prefix tokens (suc m) p b h =
+    ap (list_any (λ q. q == p)) (filter-append (has_tokens prefix tokens) (numbers m) (m ∷ []))
     ∙ elim (cases_eq p m) [
-      | inl e ↦ any-append_right (λ q. q == p) (marked prefix tokens m) (filter (is_marked prefix tokens) (m ∷ []))
-          (ap (λ x. list_any (λ q. q == p) (cond x (m ∷ []) [])) (ap (is_marked prefix tokens) (sym e) ∙ h) ∙ ap (λ x. x || false) (eq-eqb m p (sym e)))
-      | inr d ↦ any-append_left (λ q. q == p) (marked prefix tokens m) (filter (is_marked prefix tokens) (m ∷ [])) (marked-there prefix tokens m p (omega (arith, b, d)) h)
+      | inl e ↦ any-append_right (λ q. q == p) (places_with_tokens prefix tokens m) (filter (has_tokens prefix tokens) (m ∷ []))
+          (ap (λ x. list_any (λ q. q == p) (cond x (m ∷ []) [])) (ap (has_tokens prefix tokens) (sym e) ∙ h) ∙ ap (λ x. x || false) (eq-eqb m p (sym e)))
+      | inr d ↦ any-append_left (λ q. q == p) (places_with_tokens prefix tokens m) (filter (has_tokens prefix tokens) (m ∷ [])) (places_with_tokens-there prefix tokens m p (omega (arith, b, d)) h)
     ]
 
 none_or : (b : Bool) (x : ℕ) → x ≡ 0 → cond b x 0 ≡ x
@@ -78,15 +78,15 @@ module _ (prefix : List ℕ) (n : NetLists) (r : IsReadable prefix n) where
   abbrev most_places : ℕ
   most_places = length n.tokens
 
-  abbrev marked_places : List ℕ
-  marked_places = marked prefix n.tokens most_places
+  abbrev all_with_tokens : List ℕ
+  all_with_tokens = places_with_tokens prefix n.tokens most_places
 
-  inside : All (λ q. q < most_places) marked_places
-  inside = All-filter (is_marked prefix n.tokens) (λ q. q < most_places) (numbers most_places) (numbers-below most_places)
+  inside : All (λ q. q < most_places) all_with_tokens
+  inside = All-filter (has_tokens prefix n.tokens) (λ q. q < most_places) (numbers most_places) (numbers-below most_places)
 
-  good-marked : All (IsGood prefix n.tokens 1000000) marked_places
-  good-marked k d b =
-      let q = get_or marked_places k d in
+  good-places_with_tokens : All (IsGood prefix n.tokens 1000000) all_with_tokens
+  good-places_with_tokens k d b =
+      let q = get_or all_with_tokens k d in
       let h : q < most_places = inside k d b in
       record {
         name = r.formed.places q h;
@@ -94,10 +94,10 @@ module _ (prefix : List ℕ) (n : NetLists) (r : IsReadable prefix n) where
         within = All-get_or (λ x. x ≤ 1000000) n.tokens q 0 h r.within.tokens;
       }
 
-  some-marked : All (λ q. 1 ≤ slice_index n.tokens q) marked_places
-  some-marked k d b =
-      let q = get_or marked_places k d in
-      let h = eqb-false (slice_index n.tokens q) 0 (not-true (slice_index n.tokens q == 0) (filter_passes (is_marked prefix n.tokens) (numbers most_places) k d b)) in
+  some-places_with_tokens : All (λ q. 1 ≤ slice_index n.tokens q) all_with_tokens
+  some-places_with_tokens k d b =
+      let q = get_or all_with_tokens k d in
+      let h = eqb-false (slice_index n.tokens q) 0 (not-true (slice_index n.tokens q == 0) (filter_passes (has_tokens prefix n.tokens) (numbers most_places) k d b)) in
       positive (slice_index n.tokens q) h
     where
       positive : (c : ℕ) → (c ≡ 0 → ⊥) → 1 ≤ c
@@ -107,30 +107,30 @@ module _ (prefix : List ℕ) (n : NetLists) (r : IsReadable prefix n) where
   reached-all : reached prefix n r most_places ≡ most_places
   reached-all = omega (arith, cut-most (first_giver n) (length n.trans) (length n.tokens))
 
-  there-marked : All (λ p. list_any (same_place (named prefix n r p)) (places_to prefix n r (reached prefix n r most_places)) ≡ true) marked_places
-  there-marked k d b =
-      let q = get_or marked_places k d in
+  there-places_with_tokens : All (λ p. list_any (same_place (named prefix n r p)) (places_to prefix n r (reached prefix n r most_places)) ≡ true) all_with_tokens
+  there-places_with_tokens k d b =
+      let q = get_or all_with_tokens k d in
       any-listed (same_place (named prefix n r q)) (named prefix n r) (reached prefix n r most_places) q (omega (arith, inside k d b, reached-all)) (place-same prefix n r q (inside k d b))
 
-  apart-marked : AllPairs (λ p q. same_place (named prefix n r q) (named prefix n r p) ≡ false) marked_places
-  apart-marked = AllPairs-with (λ q. q < most_places) (λ p q. p < q) (λ p q. same_place (named prefix n r q) (named prefix n r p) ≡ false)
-      (λ p q a b l. place-apart prefix n r q p b a (λ e. absurd (omega (arith, e, l)))) marked_places inside
-      (AllPairs-filter (λ p q. p < q) (is_marked prefix n.tokens) (numbers most_places) (numbers-rise most_places))
+  apart-places_with_tokens : AllPairs (λ p q. same_place (named prefix n r q) (named prefix n r p) ≡ false) all_with_tokens
+  apart-places_with_tokens = AllPairs-with (λ q. q < most_places) (λ p q. p < q) (λ p q. same_place (named prefix n r q) (named prefix n r p) ≡ false)
+      (λ p q a b l. place-apart prefix n r q p b a (λ e. absurd (omega (arith, e, l)))) all_with_tokens inside
+      (AllPairs-filter (λ p q. p < q) (has_tokens prefix n.tokens) (numbers most_places) (numbers-rise most_places))
 
   abbrev pub marking_words : Row
   marking_words = codes "{" ∷ (listed_below (entry_words prefix n.tokens) most_places ++ codes "}" ∷ [])
 
-  marking-facts : (entries_of marking_words ≡ map (entry_for prefix n.tokens) marked_places) × (breaks_marking 1000000 (at_place prefix n r most_places) (codes ".marking" ∷ marking_words) ≡ false)
-  marking-facts = marking-good prefix n.tokens 1000000 (without_dummies n.signals) (places_to prefix n r (reached prefix n r most_places)) most_places good-marked some-marked there-marked apart-marked
+  marking-facts : (entries_of marking_words ≡ map (entry_for prefix n.tokens) all_with_tokens) × (breaks_marking 1000000 (at_place prefix n r most_places) (codes ".marking" ∷ marking_words) ≡ false)
+  marking-facts = marking-good prefix n.tokens 1000000 (without_dummies n.signals) (places_to prefix n r (reached prefix n r most_places)) most_places good-places_with_tokens some-places_with_tokens there-places_with_tokens apart-places_with_tokens
 
   -- what the lines before the last say
-  abbrev pub at_end : Known
+  abbrev pub at_end : Said
   at_end = record {
     has_graph = true;
     declared = without_dummies n.signals;
     trans = trans_to prefix n r (length n.trans);
     places = places_to prefix n r (reached prefix n r most_places);
-    pairs = pairs_at prefix n r most_places;
+    text_arcs = text_arcs_at prefix n r most_places;
     marking = Some marking_words;
   }
 
@@ -178,17 +178,17 @@ module _ (prefix : List ℕ) (n : NetLists) (r : IsReadable prefix n) where
 
   tokens-at : (p : ℕ) → p < most_places → tokens_by (without_dummies n.signals) (Some marking_words) (named prefix n r p) ≡ get_or n.tokens p 0
   tokens-at p b =
-      ap (λ es. tokens_in (without_dummies n.signals) es (named prefix n r p)) marking-facts.0
-      ∙ tokens-found prefix n.tokens 1000000 (without_dummies n.signals) p marked_places good-marked some-marked
-      (λ k d c e. place-apart prefix n r p (get_or marked_places k d) b (inside k d c) (λ s. e (sym s)))
+      ap (λ es. entry_tokens (without_dummies n.signals) es (named prefix n r p)) marking-facts.0
+      ∙ tokens-found prefix n.tokens 1000000 (without_dummies n.signals) p all_with_tokens good-places_with_tokens some-places_with_tokens
+      (λ k d c e. place-apart prefix n r p (get_or all_with_tokens k d) b (inside k d c) (λ s. e (sym s)))
       (place-same prefix n r p b)
       ∙ by_case
     where
-      by_case : cond (list_any (λ q. q == p) marked_places) (slice_index n.tokens p) 0 ≡ get_or n.tokens p 0
+      by_case : cond (list_any (λ q. q == p) all_with_tokens) (slice_index n.tokens p) 0 ≡ get_or n.tokens p 0
       by_case = elim (cases_Bool (slice_index n.tokens p == 0)) [
         | inl z ↦ (let e : slice_index n.tokens p ≡ 0 = eqb-true (slice_index n.tokens p) 0 z in
-            none_or (list_any (λ q. q == p) marked_places) (slice_index n.tokens p) e)
-        | inr s ↦ ap (λ b. cond b (slice_index n.tokens p) 0) (marked-there prefix n.tokens most_places p b (ap not s))
+            none_or (list_any (λ q. q == p) all_with_tokens) (slice_index n.tokens p) e)
+        | inr s ↦ ap (λ b. cond b (slice_index n.tokens p) 0) (places_with_tokens-there prefix n.tokens most_places p b (ap not s))
       ]
 
   -- the tokens are the net's
@@ -222,7 +222,7 @@ module _ (prefix : List ℕ) (n : NetLists) (r : IsReadable prefix n) where
   abbrev IsTakenFrom : ℕ → NetArc → Type 0
   IsTakenFrom p a = (a.place < most_places) × (a.trans < length n.trans) × (1 ≤ a.weight) × (goes_out_of p a ≡ true)
 
-  given-back : (t : ℕ) (xs : List NetArc) → All (IsGiven t) xs → flat_map (arcs_of all_trans all_places) (map (arc_pair (Trans (trans_at n t)) (place_node prefix n r)) xs) ≡ xs
+  given-back : (t : ℕ) (xs : List NetArc) → All (IsGiven t) xs → flat_map (arcs_of all_trans all_places) (map (text_arc_from (Trans (trans_at n t)) (place_node prefix n r)) xs) ≡ xs
   given-back t [] h = refl
   given-back t (a ∷ xs) h =
       let g = All-head (IsGiven t) a xs h in
@@ -231,7 +231,7 @@ module _ (prefix : List ℕ) (n : NetLists) (r : IsReadable prefix n) where
       let number : trans_number all_trans (trans_at n t) ≡ a.trans = trans-number t (omega (arith, e, g.1)) ∙ sym e in
       (λ j. record { place = place-number a.place g.0 j; trans = number j; into = sym c.0 j; weight = weight-back a.weight g.2 j } ∷ given-back t xs (All-tail (IsGiven t) a xs h) j)
 
-  taken-back : (p : ℕ) (xs : List NetArc) → All (IsTakenFrom p) xs → flat_map (arcs_of all_trans all_places) (map (arc_pair (Place (place_name prefix p)) (trans_node prefix n r)) xs) ≡ xs
+  taken-back : (p : ℕ) (xs : List NetArc) → All (IsTakenFrom p) xs → flat_map (arcs_of all_trans all_places) (map (text_arc_from (Place (numbered_name prefix p)) (trans_node prefix n r)) xs) ≡ xs
   taken-back p [] h = refl
   taken-back p (a ∷ xs) h =
       let g = All-head (IsTakenFrom p) a xs h in
@@ -251,13 +251,13 @@ module _ (prefix : List ℕ) (n : NetLists) (r : IsReadable prefix n) where
       (h.place_there, h.trans_there, h.positive, filter_passes (goes_out_of p) n.arcs k d b)
 
   -- the arcs are the net's, in the order of the text
-  pub same-arcs : arcs all_trans all_places (pairs_at prefix n r most_places) ≡ listed_below (arcs_given n.arcs) (length n.trans) ++ listed_below (arcs_taken n.arcs) most_places
+  pub same-arcs : arcs all_trans all_places (text_arcs_at prefix n r most_places) ≡ listed_below (arcs_given n.arcs) (length n.trans) ++ listed_below (arcs_taken n.arcs) most_places
   same-arcs =
       let f = arcs_of all_trans all_places in
-      flat_map-append f (listed_below (given_pairs prefix n r) (length n.trans)) (listed_below (taken_pairs prefix n r) most_places)
-      ∙ (λ j. flat-listed f (given_pairs prefix n r) (length n.trans) j ++ flat-listed f (taken_pairs prefix n r) most_places j)
-      ∙ (λ j. listed-agree (λ t. flat_map f (given_pairs prefix n r t)) (arcs_given n.arcs) (length n.trans) (λ t b. given-back t (arcs_given n.arcs t) (all-given t)) j
-      ++ listed-agree (λ p. flat_map f (taken_pairs prefix n r p)) (arcs_taken n.arcs) most_places (λ p b. taken-back p (arcs_taken n.arcs p) (all-taken p)) j)
+      flat_map-append f (listed_below (given_text_arcs prefix n r) (length n.trans)) (listed_below (taken_text_arcs prefix n r) most_places)
+      ∙ (λ j. flat-listed f (given_text_arcs prefix n r) (length n.trans) j ++ flat-listed f (taken_text_arcs prefix n r) most_places j)
+      ∙ (λ j. listed-agree (λ t. flat_map f (given_text_arcs prefix n r t)) (arcs_given n.arcs) (length n.trans) (λ t b. given-back t (arcs_given n.arcs t) (all-given t)) j
+      ++ listed-agree (λ p. flat_map f (taken_text_arcs prefix n r p)) (arcs_taken n.arcs) most_places (λ p b. taken-back p (arcs_taken n.arcs p) (all-taken p)) j)
 
-  pub moved-arcs : IsPermutation n.arcs (arcs all_trans all_places (pairs_at prefix n r most_places))
+  pub moved-arcs : IsPermutation n.arcs (arcs all_trans all_places (text_arcs_at prefix n r most_places))
   moved-arcs = subst (IsPermutation n.arcs) (sym same-arcs) (written-arcs (length n.trans) most_places n.arcs r.is_net.arcs)

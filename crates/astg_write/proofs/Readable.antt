@@ -21,7 +21,7 @@ use Rattle.stg_net.specs.Ordered.{first_giver}
 use Rattle.astg_read.specs.Header.{without_dummies}
 use Rattle.astg_read.specs.Nodes.{Trans, Place, same_trans}
 use Rattle.astg_read.proofs.ArcLemmas.{trans-eq}
-use Rattle.astg_write.specs.PlaceNames.{begins_with, place_name}
+use Rattle.astg_write.specs.PlaceNames.{begins_with, numbered_name}
 use Rattle.astg_write.specs.ComponentText.{of_kind, comes_from, goes_out_of}
 use Rattle.astg_write.proofs.WrittenRows.{IsFormed, get-slice}
 use Rattle.astg_write.proofs.NodeForms.{IsWordOf, word-trans, word-place, number-of_name}
@@ -33,7 +33,7 @@ pub record IsReadable (prefix : List ℕ) (n : NetLists) : Type 0 where
   pub is_net : IsNet n
   pub within : IsWithin PART n
   pub free : list_any (begins_with prefix) n.signals ≡ false
-  pub places_apart : (p q : ℕ) → p < length n.tokens → q < length n.tokens → p ≢ q → bytes_eq (place_name prefix p) (place_name prefix q) ≡ false
+  pub places_apart : (p q : ℕ) → p < length n.tokens → q < length n.tokens → p ≢ q → bytes_eq (numbered_name prefix p) (numbered_name prefix q) ≡ false
   pub by_kind : n.signals ≡ filter (of_kind Input) n.signals ++ filter (of_kind Output) n.signals ++ filter (of_kind Internal) n.signals
   pub rising : (p q : ℕ) → p ≤ q → q < length n.tokens → first_giver n p ≤ first_giver n q
 
@@ -53,8 +53,8 @@ module _ (prefix : List ℕ) (n : NetLists) (r : IsReadable prefix n) where
       (unused w rest e ss p.1)
 
   -- a place's name stands for the place
-  pub place-word : (p : ℕ) → p < length n.tokens → IsWordOf (without_dummies n.signals) (place_name prefix p) (Place (place_name prefix p))
-  place-word p b = word-place n.signals r.formed.names (place_name prefix p) (r.formed.places p b) (unused (place_name prefix p) (decimal (p + 1)) refl n.signals r.free)
+  pub place-word : (p : ℕ) → p < length n.tokens → IsWordOf (without_dummies n.signals) (numbered_name prefix p) (Place (numbered_name prefix p))
+  place-word p b = word-place n.signals r.formed.names (numbered_name prefix p) (r.formed.places p b) (unused (numbered_name prefix p) (decimal (p + 1)) refl n.signals r.free)
 
   -- a transition's word stands for the transition
   pub trans-word : (t : ℕ) → t < length n.trans → IsWordOf (without_dummies n.signals) (trans_word n.signals n.trans t) (Trans (trans_at n t))

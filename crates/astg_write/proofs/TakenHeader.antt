@@ -14,13 +14,13 @@ use Rattle.stg_net.specs.declared.signal.Signal.{Signal}
 use Rattle.stg_net.specs.Net.{NetLists, is_kind}
 use Rattle.stg_net.specs.Names.{is_name}
 use Rattle.astg_read.specs.declared.rule.Rule.TheVariants.{OutOfOrder, BadName, DeclaredTwice}
-use Rattle.astg_read.specs.Lists.{stands_again}
+use Rattle.astg_read.specs.Lists.{has_repeat}
 use Rattle.astg_read.specs.Rows.{Row, begins}
 use Rattle.astg_read.specs.Header.{without_dummies, signals_of, same_name}
-use Rattle.astg_read.specs.Known.{Known}
+use Rattle.astg_read.specs.Said.{Said}
 use Rattle.astg_read.specs.Rules.{has_too_many, has_dummy}
-use Rattle.astg_read.specs.Steps.{after_row}
-use Rattle.astg_read.specs.Taking.{line_fault, directive}
+use Rattle.astg_read.specs.Growth.{after_row}
+use Rattle.astg_read.specs.LineResult.{line_fault, directive}
 use Rattle.astg_read.proofs.Verdicts.{fault-names, fault-model, fault-graph, three}
 use Rattle.astg_write.specs.ComponentText.{of_kind}
 use Rattle.astg_write.proofs.WrittenRows.{names_in, names_rows, header_rows, model_row}
@@ -30,8 +30,8 @@ use Rattle.astg_write.proofs.Readable.{IsReadable}
 use Rattle.astg_write.proofs.TakenNet.{few-enough, filter-none, in_graph_of}
 
 -- what the lines before the graph say
-abbrev pub heads : List Signal → Known
-heads ss = record { has_graph = false; declared = without_dummies ss; trans = []; places = []; pairs = []; marking = None }
+abbrev pub heads : List Signal → Said
+heads ss = record { has_graph = false; declared = without_dummies ss; trans = []; places = []; text_arcs = []; marking = None }
 
 few-heads : (ss : List Signal) → length ss ≤ 250 → has_too_many PART (heads ss) ≡ false
 few-heads ss h = few-enough (heads ss) h (omega arith) (omega arith) (omega arith)
@@ -87,7 +87,7 @@ all-names [] h = refl
 all-names (s ∷ ss) h = let P : Signal → Type 0 = λ x. is_name x.name ≡ true in
     ap (λ b. b && list_all is_name (map (λ (s : Signal). s.name) ss)) (All-head P s ss h) ∙ all-names ss (All-tail P s ss h)
 
-takes-names : (kind : Kind) (pre ss : List Signal) → All (λ (s : Signal). is_name s.name ≡ true) ss → stands_again same_name pre (filter (of_kind kind) ss) ≡ false → length (pre ++ filter (of_kind kind) ss) ≤ 250
+takes-names : (kind : Kind) (pre ss : List Signal) → All (λ (s : Signal). is_name s.name ≡ true) ss → has_repeat same_name pre (filter (of_kind kind) ss) ≡ false → length (pre ++ filter (of_kind kind) ss) ≤ 250
     → Takes PART (heads pre) (names_rows (directive kind) kind ss) (heads (pre ++ filter (of_kind kind) ss))
 takes-names kind pre ss named again few = elim (cases_Bool (list_any (of_kind kind) ss)) [
   | inl k ↦ subst (λ b. Takes PART (heads pre) (cond b ((directive kind ∷ names_in kind ss) ∷ []) []) (heads (pre ++ filter (of_kind kind) ss))) (sym k) there
@@ -103,7 +103,7 @@ takes-names kind pre ss named again few = elim (cases_Bool (list_any (of_kind ki
 
     fault : line_fault PART.weight (heads pre) (directive kind ∷ names_in kind ss) ≡ None
     fault = fault-names PART.weight (heads pre) kind (names_in kind ss)
-        ∙ (λ j. three false OutOfOrder (not (formed j)) BadName (stands_again same_name pre (signals-back kind ss j)) DeclaredTwice)
+        ∙ (λ j. three false OutOfOrder (not (formed j)) BadName (has_repeat same_name pre (signals-back kind ss j)) DeclaredTwice)
         ∙ (λ j. three false OutOfOrder false BadName (again j) DeclaredTwice)
 
     there : Takes PART (heads pre) ((directive kind ∷ names_in kind ss) ∷ []) (heads (pre ++ filter (of_kind kind) ss))
@@ -136,7 +136,7 @@ NamesDiffer s t = s.name ≢ t.name
 differ : (x y : Signal) → NamesDiffer x y → same_name y x ≡ false
 differ x y h = false_from_ne_true (bytes_eq y.name x.name) (λ b. h (sym ((bytes_eq-Decides y.name x.name).0 b)))
 
-not-again : (pre new : List Signal) → AllPairs NamesDiffer (pre ++ new) → stands_again same_name pre new ≡ false
+not-again : (pre new : List Signal) → AllPairs NamesDiffer (pre ++ new) → has_repeat same_name pre new ≡ false
 not-again pre new h = again-none same_name pre new (none-before NamesDiffer same_name differ pre new h)
     (λ i j d l b. differ (get_or new i d) (get_or new j d) (AllPairs-right NamesDiffer pre new h i j d l b))
 

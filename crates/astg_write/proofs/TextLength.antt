@@ -17,8 +17,8 @@ use Rattle.stg_net.specs.Net.{NetLists, IsWithin, IsArcOf}
 use Rattle.stg_net.specs.Names.{is_name}
 use Rattle.stg_net.specs.Words.{word_of, trans_word, sign_of, index_text, name_at}
 use Rattle.stg_net.specs.Ordered.{listed_below}
-use Rattle.astg_write.specs.PlaceNames.{place_name}
-use Rattle.astg_write.specs.ComponentText.{line, model_line, of_kind, names_of, names_line, weight_group, comes_from, goes_out_of, given_by, trans_line, takers_of, is_only_given, place_line, tokens_group, entry, marking_line, header, graph_lines, net_lines}
+use Rattle.astg_write.specs.PlaceNames.{numbered_name}
+use Rattle.astg_write.specs.ComponentText.{line, model_line, of_kind, spaced_names, names_line, weight_group, comes_from, goes_out_of, given_text, trans_line, takers_of, is_only_given, place_line, tokens_group, entry, marking_line, header, graph_lines, net_lines}
 use Rattle.astg_write.proofs.WordForms.{name-length}
 use Rattle.astg_write.proofs.WrittenRows.{IsFormed, Aim, aim_bytes, aim_into, aim_out_of, given_aims, taker_aims, given-bytes, takers-bytes, get-slice, name-formed}
 use Rattle.astg_write.proofs.WrittenArcs.{arcs_given, arcs_taken, written-length}
@@ -44,20 +44,20 @@ aims-length (x ∷ xs) h =
     let e = aims-length xs (All-tail IsShort x xs h) in
     omega (arith, a, b, c, d, e, g.0)
 
-names-length : (kind : Kind) (ss : List Signal) → All (λ (s : Signal). is_name s.name ≡ true) ss → length (names_of kind ss) ≤ 101 * length ss
+names-length : (kind : Kind) (ss : List Signal) → All (λ (s : Signal). is_name s.name ≡ true) ss → length (spaced_names kind ss) ≤ 101 * length ss
 names-length kind [] h = omega arith
 names-length kind (s ∷ ss) h =
     by_case (of_kind kind s) (names-length kind ss (All-tail (λ (x : Signal). is_name x.name ≡ true) s ss h))
   where
-    by_case : (b : Bool) → length (names_of kind ss) ≤ 101 * length ss → length (cond b (codes " " ++ s.name ++ names_of kind ss) (names_of kind ss)) ≤ 101 * suc (length ss)
-    by_case true e = omega (arith, length-append (codes " " ++ s.name) (names_of kind ss), length-append (codes " ") s.name, name-length s.name (All-head (λ (x : Signal). is_name x.name ≡ true) s ss h), e)
+    by_case : (b : Bool) → length (spaced_names kind ss) ≤ 101 * length ss → length (cond b (codes " " ++ s.name ++ spaced_names kind ss) (spaced_names kind ss)) ≤ 101 * suc (length ss)
+    by_case true e = omega (arith, length-append (codes " " ++ s.name) (spaced_names kind ss), length-append (codes " ") s.name, name-length s.name (All-head (λ (x : Signal). is_name x.name ≡ true) s ss h), e)
     by_case false e = omega (arith, e)
 
 line-length : (directive : List ℕ) (kind : Kind) (ss : List Signal) → length directive ≤ 9 → All (λ (s : Signal). is_name s.name ≡ true) ss → length ss ≤ 250 → length (names_line directive kind ss) ≤ 25260
 line-length directive kind ss short h few = by_case (list_any (of_kind kind) ss)
   where
-    by_case : (b : Bool) → length (cond b (line (directive ++ names_of kind ss)) []) ≤ 25260
-    by_case true = omega (arith, length-append (directive ++ names_of kind ss) (codes "\n"), length-append directive (names_of kind ss), names-length kind ss h, short, few)
+    by_case : (b : Bool) → length (cond b (line (directive ++ spaced_names kind ss)) []) ≤ 25260
+    by_case true = omega (arith, length-append (directive ++ spaced_names kind ss) (codes "\n"), length-append directive (spaced_names kind ss), names-length kind ss h, short, few)
     by_case false = omega arith
 
 -- the lists for each number are short, beside a part that counts as another list
@@ -76,7 +76,7 @@ listed-none (suc n) = omega (arith, length-append (listed_below nothing n) (noth
 pub model-length : (part : ℕ) → part < 2 ^ 32 → length (model_line part) ≤ 22
 model-length part small = omega (arith, length-append (codes ".model part" ++ decimal part) (codes "\n"), length-append (codes ".model part") (decimal part), length-decimal-le 10 part (omega arith) (omega (arith, small)) (omega (arith, small)))
 
-module _ (prefix : List ℕ) (n : NetLists) (formed : IsFormed prefix n) (within : IsWithin PART n) (are : All (IsArcOf (length n.tokens) (length n.trans)) n.arcs) (short : (p : ℕ) → p < length n.tokens → length (place_name prefix p) ≤ 9) where
+module _ (prefix : List ℕ) (n : NetLists) (formed : IsFormed prefix n) (within : IsWithin PART n) (are : All (IsArcOf (length n.tokens) (length n.trans)) n.arcs) (short : (p : ℕ) → p < length n.tokens → length (numbered_name prefix p) ≤ 9) where
   index-length : (k : ℕ) → k < 1000000000 → length (index_text k) ≤ 10
   index-length k h = by_case (k == 0)
     where
@@ -96,7 +96,7 @@ module _ (prefix : List ℕ) (n : NetLists) (formed : IsFormed prefix n) (within
       omega (arith, e, f, g, h)
 
   given-short : (t : ℕ) → All IsShort (given_aims prefix t n.arcs)
-  given-short t = All-map IsShort (aim_into prefix) (arcs_given n.arcs t) (All-filter (comes_from t) (λ (a : NetArc). (length (place_name prefix a.place) ≤ 111) × (a.weight < 10000000)) n.arcs
+  given-short t = All-map IsShort (aim_into prefix) (arcs_given n.arcs t) (All-filter (comes_from t) (λ (a : NetArc). (length (numbered_name prefix a.place) ≤ 111) × (a.weight < 10000000)) n.arcs
       (λ k d b. let s = short (get_or n.arcs k d).place (are k d b).place_there in let w = within.weights k d b in (omega (arith, s), omega (arith, w))))
 
   taken-short : (p : ℕ) → All IsShort (taker_aims n p n.arcs)
@@ -107,15 +107,15 @@ module _ (prefix : List ℕ) (n : NetLists) (formed : IsFormed prefix n) (within
   trans-line-length t b =
       let w = trans_word n.signals n.trans t in
       let e = ap length (given-bytes prefix t n.arcs) in
-      omega (arith, length-append (w ++ given_by prefix t n.arcs) (codes "\n"), length-append w (given_by prefix t n.arcs), e, aims-length (given_aims prefix t n.arcs) (given-short t), length-map (arcs_given n.arcs t) (aim_into prefix), trans-length t b)
+      omega (arith, length-append (w ++ given_text prefix t n.arcs) (codes "\n"), length-append w (given_text prefix t n.arcs), e, aims-length (given_aims prefix t n.arcs) (given-short t), length-map (arcs_given n.arcs t) (aim_into prefix), trans-length t b)
 
   place-line-length : (p : ℕ) → p < length n.tokens → length (place_line prefix n p) ≤ 112 + 121 * length (arcs_taken n.arcs p)
   place-line-length p b = by_case (is_only_given n.arcs p)
     where
-      by_case : (c : Bool) → length (cond c [] (line (place_name prefix p ++ takers_of n p n.arcs))) ≤ 112 + 121 * length (arcs_taken n.arcs p)
+      by_case : (c : Bool) → length (cond c [] (line (numbered_name prefix p ++ takers_of n p n.arcs))) ≤ 112 + 121 * length (arcs_taken n.arcs p)
       by_case true = omega arith
       by_case false =
-          let w = place_name prefix p in
+          let w = numbered_name prefix p in
           let e = ap length (takers-bytes n p n.arcs) in
           omega (arith, length-append (w ++ takers_of n p n.arcs) (codes "\n"), length-append w (takers_of n p n.arcs), e, aims-length (taker_aims n p n.arcs) (taken-short p), length-map (arcs_taken n.arcs p) (aim_out_of n), short p b)
 
@@ -129,9 +129,9 @@ module _ (prefix : List ℕ) (n : NetLists) (formed : IsFormed prefix n) (within
       group-length true = omega arith
       group-length false = omega (arith, length-append (codes "=") (decimal (slice_index n.tokens p)), length-decimal-le 7 (slice_index n.tokens p) (omega arith) (omega (arith, most)) (omega (arith, most)))
 
-      by_case : (c : Bool) → length (cond c [] (codes " " ++ place_name prefix p ++ tokens_group (slice_index n.tokens p))) ≤ 112 + 121 * length (nothing p)
+      by_case : (c : Bool) → length (cond c [] (codes " " ++ numbered_name prefix p ++ tokens_group (slice_index n.tokens p))) ≤ 112 + 121 * length (nothing p)
       by_case true = omega arith
-      by_case false = omega (arith, length-append (codes " " ++ place_name prefix p) (tokens_group (slice_index n.tokens p)), length-append (codes " ") (place_name prefix p), short p b, group-length (nat_le (slice_index n.tokens p) 1))
+      by_case false = omega (arith, length-append (codes " " ++ numbered_name prefix p) (tokens_group (slice_index n.tokens p)), length-append (codes " ") (numbered_name prefix p), short p b, group-length (nat_le (slice_index n.tokens p) 1))
 
   header-length : length (header n.signals) ≤ 75780
   header-length =

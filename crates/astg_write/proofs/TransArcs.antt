@@ -8,32 +8,32 @@ use Rattle.std.specs.Ordering.{is_lt, nat_cmp}
 use Rattle.std.specs.declared.cmp.Ordering.TheVariants.{Less, Equal, Greater}
 use Rattle.std.specs.Prelude.{codes}
 use Rattle.stg_net.specs.declared.arc.NetArc.{NetArc}
-use Rattle.astg_write.specs.PlaceNames.{place_name}
-use Rattle.astg_write.specs.ComponentText.{comes_from, weight_group, given_by}
+use Rattle.astg_write.specs.PlaceNames.{numbered_name}
+use Rattle.astg_write.specs.ComponentText.{comes_from, weight_group, given_text}
 use Rattle.astg_write.proofs.PlaceArcs.{later, cut, before, after}
 use Rattle.astg_write.proofs.WrittenArcs.{filter-agree}
 
 -- what two lists of arcs give, one after the other
-given-append : (prefix : List ℕ) (t : ℕ) (xs ys : List NetArc) → given_by prefix t (xs ++ ys) ≡ given_by prefix t xs ++ given_by prefix t ys
+given-append : (prefix : List ℕ) (t : ℕ) (xs ys : List NetArc) → given_text prefix t (xs ++ ys) ≡ given_text prefix t xs ++ given_text prefix t ys
 given-append prefix t [] ys = refl
 given-append prefix t (a ∷ xs) ys = by (comes_from t a) (given-append prefix t xs ys)
   where
-    by : (b : Bool) → given_by prefix t (xs ++ ys) ≡ given_by prefix t xs ++ given_by prefix t ys
-        → cond b (codes " " ++ place_name prefix a.place ++ weight_group a.weight ++ given_by prefix t (xs ++ ys)) (given_by prefix t (xs ++ ys))
-        ≡ cond b (codes " " ++ place_name prefix a.place ++ weight_group a.weight ++ given_by prefix t xs) (given_by prefix t xs) ++ given_by prefix t ys
-    by true e = later (codes " ") (place_name prefix a.place) (weight_group a.weight) (given_by prefix t xs) (given_by prefix t ys) (given_by prefix t (xs ++ ys)) e
+    by : (b : Bool) → given_text prefix t (xs ++ ys) ≡ given_text prefix t xs ++ given_text prefix t ys
+        → cond b (codes " " ++ numbered_name prefix a.place ++ weight_group a.weight ++ given_text prefix t (xs ++ ys)) (given_text prefix t (xs ++ ys))
+        ≡ cond b (codes " " ++ numbered_name prefix a.place ++ weight_group a.weight ++ given_text prefix t xs) (given_text prefix t xs) ++ given_text prefix t ys
+    by true e = later (codes " ") (numbered_name prefix a.place) (weight_group a.weight) (given_text prefix t xs) (given_text prefix t ys) (given_text prefix t (xs ++ ys)) e
     by false e = e
 
 -- arcs of other transitions give nothing
-given-none : (prefix : List ℕ) (t : ℕ) (xs : List NetArc) → All (λ (a : NetArc). a.trans ≢ t) xs → given_by prefix t xs ≡ []
+given-none : (prefix : List ℕ) (t : ℕ) (xs : List NetArc) → All (λ (a : NetArc). a.trans ≢ t) xs → given_text prefix t xs ≡ []
 given-none prefix t [] h = refl
 given-none prefix t (a ∷ xs) h =
     let other : comes_from t a ≡ false = and_right a.into (a.trans == t) (ne_eqb a.trans t (All-head (λ (x : NetArc). x.trans ≢ t) a xs h)) in
-    ap (λ b. cond b (codes " " ++ place_name prefix a.place ++ weight_group a.weight ++ given_by prefix t xs) (given_by prefix t xs)) other
+    ap (λ b. cond b (codes " " ++ numbered_name prefix a.place ++ weight_group a.weight ++ given_text prefix t xs) (given_text prefix t xs)) other
     ∙ given-none prefix t xs (All-tail (λ (x : NetArc). x.trans ≢ t) a xs h)
 
 -- only the arcs of the transition count
-given-filter : (prefix : List ℕ) (t : ℕ) (xs : List NetArc) → given_by prefix t xs ≡ given_by prefix t (filter (λ (a : NetArc). a.trans == t) xs)
+given-filter : (prefix : List ℕ) (t : ℕ) (xs : List NetArc) → given_text prefix t xs ≡ given_text prefix t (filter (λ (a : NetArc). a.trans == t) xs)
 given-filter prefix t [] = refl
 given-filter prefix t (a ∷ xs) = by (a.trans == t) refl (given-filter prefix t xs)
   where
@@ -41,12 +41,12 @@ given-filter prefix t (a ∷ xs) = by (a.trans == t) refl (given-filter prefix t
     rest = filter (λ (x : NetArc). x.trans == t) xs
 
     word : List ℕ → List ℕ
-    word more = codes " " ++ place_name prefix a.place ++ weight_group a.weight ++ more
+    word more = codes " " ++ numbered_name prefix a.place ++ weight_group a.weight ++ more
 
-    by : (b : Bool) → (a.trans == t) ≡ b → given_by prefix t xs ≡ given_by prefix t rest
-        → cond (a.into && b) (word (given_by prefix t xs)) (given_by prefix t xs) ≡ given_by prefix t (cond b (a ∷ rest) rest)
+    by : (b : Bool) → (a.trans == t) ≡ b → given_text prefix t xs ≡ given_text prefix t rest
+        → cond (a.into && b) (word (given_text prefix t xs)) (given_text prefix t xs) ≡ given_text prefix t (cond b (a ∷ rest) rest)
     by true e more = (λ j. cond (a.into && sym e j) (word (more j)) (more j))
-    by false e more = ap (λ b. cond b (word (given_by prefix t xs)) (given_by prefix t xs)) (and_right a.into false refl) ∙ more
+    by false e more = ap (λ b. cond b (word (given_text prefix t xs)) (given_text prefix t xs)) (and_right a.into false refl) ∙ more
 
 -- neither number is below the other where they are one
 tie-is : (x y : ℕ) → (not (is_lt (nat_cmp x y)) && not (is_lt (nat_cmp y x))) ≡ (y == x)
@@ -67,14 +67,14 @@ tie-is x y = elim (cases_order x y) [
 ]
 
 -- a stable sort by transitions leaves what each transition gives
-pub given-sorted : (xs ys : List NetArc) → IsStableByKey (λ (a : NetArc). a.trans) nat_cmp xs ys → (prefix : List ℕ) (t : ℕ) → given_by prefix t ys ≡ given_by prefix t xs
+pub given-sorted : (xs ys : List NetArc) → IsStableByKey (λ (a : NetArc). a.trans) nat_cmp xs ys → (prefix : List ℕ) (t : ℕ) → given_text prefix t ys ≡ given_text prefix t xs
 given-sorted xs ys stable prefix t =
     let x : NetArc = record { place = 0; trans = t; into = false; weight = 0 } in
     let tie : NetArc → Bool = λ a. not (is_lt (nat_cmp t a.trans)) && not (is_lt (nat_cmp a.trans t)) in
     let own : NetArc → Bool = λ a. a.trans == t in
     let agree : (zs : List NetArc) → filter tie zs ≡ filter own zs = λ zs. filter-agree tie own zs (λ k d b. tie-is t (get_or zs k d).trans) in
     given-filter prefix t ys
-    ∙ ap (given_by prefix t) (sym (agree ys) ∙ stable x ∙ agree xs)
+    ∙ ap (given_text prefix t) (sym (agree ys) ∙ stable x ∙ agree xs)
     ∙ sym (given-filter prefix t xs)
 
 module _ (xs : List NetArc) (u f t : ℕ) (begins : f ≤ length xs) (ends : t ≤ length xs)
@@ -87,13 +87,13 @@ module _ (xs : List NetArc) (u f t : ℕ) (begins : f ≤ length xs) (ends : t �
   ours = take (t - f) (drop f xs)
 
   -- the arcs from f on and before t are all that u has
-  pub given-slice : (prefix : List ℕ) → given_by prefix u ours ≡ given_by prefix u xs
+  pub given-slice : (prefix : List ℕ) → given_text prefix u ours ≡ given_text prefix u xs
   given-slice prefix =
       let low = before trans xs u f t begins ends below above in
       let high = after trans xs u f t begins ends below above in
-      sym (ap (given_by prefix u) (cut trans xs u f t begins ends below above)
+      sym (ap (given_text prefix u) (cut trans xs u f t begins ends below above)
       ∙ given-append prefix u (take f xs) (ours ++ drop t xs)
-      ∙ ap (λ l. l ++ given_by prefix u (ours ++ drop t xs)) (given-none prefix u (take f xs) low)
+      ∙ ap (λ l. l ++ given_text prefix u (ours ++ drop t xs)) (given-none prefix u (take f xs) low)
       ∙ given-append prefix u ours (drop t xs)
-      ∙ ap (λ l. given_by prefix u ours ++ l) (given-none prefix u (drop t xs) high)
-      ∙ append-nil (given_by prefix u ours))
+      ∙ ap (λ l. given_text prefix u ours ++ l) (given-none prefix u (drop t xs) high)
+      ∙ append-nil (given_text prefix u ours))

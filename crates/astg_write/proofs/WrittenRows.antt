@@ -15,8 +15,8 @@ use Rattle.stg_net.specs.Names.{is_name, is_digit}
 use Rattle.stg_net.specs.Words.{word_of, trans_word, name_at}
 use Rattle.stg_net.specs.Ordered.{listed_below}
 use Rattle.astg_read.specs.Rows.{Word, Row}
-use Rattle.astg_write.specs.PlaceNames.{place_name}
-use Rattle.astg_write.specs.ComponentText.{line, model_line, of_kind, names_of, names_line, weight_group, comes_from, goes_out_of, given_by, trans_line, takers_of, is_only_given, place_line, tokens_group, entry, marking_line, header, graph_lines, net_lines}
+use Rattle.astg_write.specs.PlaceNames.{numbered_name}
+use Rattle.astg_write.specs.ComponentText.{line, model_line, of_kind, spaced_names, names_line, weight_group, comes_from, goes_out_of, given_text, trans_line, takers_of, is_only_given, place_line, tokens_group, entry, marking_line, header, graph_lines, net_lines}
 use Rattle.astg_write.proofs.WrittenWords.{AreWords, Follow, AreWords-append, Follow-append, Follow-nil, Follow-space, Follow-open, Follow-close, Follow-equal, AreWords-begin, AreWords-end, AreWords-word, is_word_byte, AreLines, AreLines-line, AreLines-append, AreLines-nil}
 use Rattle.astg_write.proofs.WordForms.{AreWords-name, AreWords-decimal, AreWords-trans, decimal-digits, digit-in_name, in_name-word, all-weaker}
 
@@ -39,7 +39,7 @@ aim_bytes (x ∷ xs) = codes " " ++ x.0 ++ weight_group x.1 ++ aim_bytes xs
 
 -- the place of an arc as a target
 abbrev pub aim_into : List ℕ → NetArc → Aim
-aim_into prefix a = (place_name prefix a.place, a.weight)
+aim_into prefix a = (numbered_name prefix a.place, a.weight)
 
 -- the transition of an arc as a target
 abbrev pub aim_out_of : NetLists → NetArc → Aim
@@ -65,7 +65,7 @@ abbrev pub trans_row : List ℕ → NetLists → ℕ → Row
 trans_row prefix n t = trans_word n.signals n.trans t ∷ aim_words (given_aims prefix t n.arcs)
 
 abbrev pub place_row : List ℕ → NetLists → ℕ → Row
-place_row prefix n p = place_name prefix p ∷ aim_words (taker_aims n p n.arcs)
+place_row prefix n p = numbered_name prefix p ∷ aim_words (taker_aims n p n.arcs)
 
 abbrev pub place_rows : List ℕ → NetLists → ℕ → List Row
 place_rows prefix n p = cond (is_only_given n.arcs p) [] (place_row prefix n p ∷ [])
@@ -74,7 +74,7 @@ abbrev pub token_words : ℕ → Row
 token_words k = cond (nat_le k 1) [] (codes "=" ∷ decimal k ∷ [])
 
 abbrev pub entry_words : List ℕ → List ℕ → ℕ → Row
-entry_words prefix tokens p = cond (slice_index tokens p == 0) [] (place_name prefix p ∷ token_words (slice_index tokens p))
+entry_words prefix tokens p = cond (slice_index tokens p == 0) [] (numbered_name prefix p ∷ token_words (slice_index tokens p))
 
 abbrev pub marking_row : List ℕ → List ℕ → Row
 marking_row prefix tokens = (codes ".marking" ∷ codes "{" ∷ []) ++ listed_below (entry_words prefix tokens) (length tokens) ++ codes "}" ∷ []
@@ -96,7 +96,7 @@ pub record IsFormed (prefix : List ℕ) (n : NetLists) : Type 0 where
   pub names : All (λ (s : Signal). is_name s.name ≡ true) n.signals
   pub indices : All (λ (t : TransName). t.index < 1000000000) n.trans
   pub trans_signals : All (λ (t : TransName). t.signal < length n.signals) n.trans
-  pub places : (p : ℕ) → p < length n.tokens → is_name (place_name prefix p) ≡ true
+  pub places : (p : ℕ) → p < length n.tokens → is_name (numbered_name prefix p) ≡ true
   pub arcs : All (λ (a : NetArc). (a.place < length n.tokens) × (a.trans < length n.trans) × (a.weight < 1000000000)) n.arcs
   pub tokens : All (λ k. k < 1000000000) n.tokens
 
@@ -123,13 +123,13 @@ Follow-aims (x ∷ xs) h =
     (Follow-append (codes " " ++ x.0) (weight_group x.1) (x.0 ∷ []) (weight_words x.1) (Follow-space x.0 (x.0 ∷ []) p.0) (Follow-weight x.1 p.1))
     (Follow-aims xs (All-tail IsAim x xs h))
 
-pub given-bytes : (prefix : List ℕ) (t : ℕ) (arcs : List NetArc) → given_by prefix t arcs ≡ aim_bytes (given_aims prefix t arcs)
+pub given-bytes : (prefix : List ℕ) (t : ℕ) (arcs : List NetArc) → given_text prefix t arcs ≡ aim_bytes (given_aims prefix t arcs)
 given-bytes prefix t [] = refl
 given-bytes prefix t (a ∷ arcs) = by_case (comes_from t a) (given-bytes prefix t arcs)
   where
-    by_case : (b : Bool) → given_by prefix t arcs ≡ aim_bytes (given_aims prefix t arcs)
-        → cond b (codes " " ++ place_name prefix a.place ++ weight_group a.weight ++ given_by prefix t arcs) (given_by prefix t arcs) ≡ aim_bytes (map (aim_into prefix) (cond b (a ∷ filter (comes_from t) arcs) (filter (comes_from t) arcs)))
-    by_case true e = ap (λ bs. codes " " ++ place_name prefix a.place ++ weight_group a.weight ++ bs) e
+    by_case : (b : Bool) → given_text prefix t arcs ≡ aim_bytes (given_aims prefix t arcs)
+        → cond b (codes " " ++ numbered_name prefix a.place ++ weight_group a.weight ++ given_text prefix t arcs) (given_text prefix t arcs) ≡ aim_bytes (map (aim_into prefix) (cond b (a ∷ filter (comes_from t) arcs) (filter (comes_from t) arcs)))
+    by_case true e = ap (λ bs. codes " " ++ numbered_name prefix a.place ++ weight_group a.weight ++ bs) e
     by_case false e = e
 
 pub takers-bytes : (n : NetLists) (p : ℕ) (arcs : List NetArc) → takers_of n p arcs ≡ aim_bytes (taker_aims n p arcs)
@@ -141,13 +141,13 @@ takers-bytes n p (a ∷ arcs) = by_case (goes_out_of p a) (takers-bytes n p arcs
     by_case true e = ap (λ bs. codes " " ++ trans_word n.signals n.trans a.trans ++ weight_group a.weight ++ bs) e
     by_case false e = e
 
-Follow-names : (kind : Kind) (ss : List Signal) → All (λ (s : Signal). is_name s.name ≡ true) ss → Follow (names_of kind ss) (names_in kind ss)
+Follow-names : (kind : Kind) (ss : List Signal) → All (λ (s : Signal). is_name s.name ≡ true) ss → Follow (spaced_names kind ss) (names_in kind ss)
 Follow-names kind [] h = Follow-nil
 Follow-names kind (s ∷ ss) h = by_case (of_kind kind s) (Follow-names kind ss (All-tail (λ (s : Signal). is_name s.name ≡ true) s ss h))
   where
-    by_case : (b : Bool) → Follow (names_of kind ss) (names_in kind ss)
-        → Follow (cond b (codes " " ++ s.name ++ names_of kind ss) (names_of kind ss)) (map (λ (s : Signal). s.name) (cond b (s ∷ filter (of_kind kind) ss) (filter (of_kind kind) ss)))
-    by_case true e = Follow-append (codes " " ++ s.name) (names_of kind ss) (s.name ∷ []) (names_in kind ss)
+    by_case : (b : Bool) → Follow (spaced_names kind ss) (names_in kind ss)
+        → Follow (cond b (codes " " ++ s.name ++ spaced_names kind ss) (spaced_names kind ss)) (map (λ (s : Signal). s.name) (cond b (s ∷ filter (of_kind kind) ss) (filter (of_kind kind) ss)))
+    by_case true e = Follow-append (codes " " ++ s.name) (spaced_names kind ss) (s.name ∷ []) (names_in kind ss)
         (Follow-space s.name (s.name ∷ []) (AreWords-name s.name (All-head (λ (s : Signal). is_name s.name ≡ true) s ss h))) e
     by_case false e = e
 
@@ -155,9 +155,9 @@ lines-names : (b : ℕ) (bs : List ℕ) (kind : Kind) (ss : List Signal) → lis
     → AreLines (names_line (b ∷ bs) kind ss) (names_rows (b ∷ bs) kind ss)
 lines-names b bs kind ss w h = by_case (list_any (of_kind kind) ss)
   where
-    by_case : (c : Bool) → AreLines (cond c (line ((b ∷ bs) ++ names_of kind ss)) []) (cond c (((b ∷ bs) ∷ names_in kind ss) ∷ []) [])
-    by_case true = AreLines-line ((b ∷ bs) ++ names_of kind ss) ((b ∷ bs) ∷ names_in kind ss)
-        (AreWords-append (b ∷ bs) (names_of kind ss) ((b ∷ bs) ∷ []) (names_in kind ss) (AreWords-word b bs w) (Follow-names kind ss h))
+    by_case : (c : Bool) → AreLines (cond c (line ((b ∷ bs) ++ spaced_names kind ss)) []) (cond c (((b ∷ bs) ∷ names_in kind ss) ∷ []) [])
+    by_case true = AreLines-line ((b ∷ bs) ++ spaced_names kind ss) ((b ∷ bs) ∷ names_in kind ss)
+        (AreWords-append (b ∷ bs) (spaced_names kind ss) ((b ∷ bs) ∷ []) (names_in kind ss) (AreWords-word b bs w) (Follow-names kind ss h))
     by_case false = AreLines-nil
 
 lines-header : (ss : List Signal) → All (λ (s : Signal). is_name s.name ≡ true) ss → AreLines (header ss) (header_rows ss)
@@ -209,7 +209,7 @@ module _ (prefix : List ℕ) (n : NetLists) (formed : IsFormed prefix n) where
   aims-given t (a ∷ arcs) h = by_case (comes_from t a) (aims-given t arcs (All-tail IsGoodArc a arcs h)) (All-head IsGoodArc a arcs h)
     where
       by_case : (b : Bool) → All IsAim (given_aims prefix t arcs) → IsGoodArc a → All IsAim (map (aim_into prefix) (cond b (a ∷ filter (comes_from t) arcs) (filter (comes_from t) arcs)))
-      by_case true e g = All-cons IsAim (aim_into prefix a) (given_aims prefix t arcs) (AreWords-name (place_name prefix a.place) (formed.places a.place g.0), g.2) e
+      by_case true e g = All-cons IsAim (aim_into prefix a) (given_aims prefix t arcs) (AreWords-name (numbered_name prefix a.place) (formed.places a.place g.0), g.2) e
       by_case false e g = e
 
   aims-takers : (p : ℕ) (arcs : List NetArc) → All IsGoodArc arcs → All IsAim (taker_aims n p arcs)
@@ -231,10 +231,10 @@ module _ (prefix : List ℕ) (n : NetLists) (formed : IsFormed prefix n) where
   lines-place : (p : ℕ) → p < length n.tokens → AreLines (place_line prefix n p) (place_rows prefix n p)
   lines-place p b = by_case (is_only_given n.arcs p)
     where
-      by_case : (c : Bool) → AreLines (cond c [] (line (place_name prefix p ++ takers_of n p n.arcs))) (cond c [] (place_row prefix n p ∷ []))
+      by_case : (c : Bool) → AreLines (cond c [] (line (numbered_name prefix p ++ takers_of n p n.arcs))) (cond c [] (place_row prefix n p ∷ []))
       by_case true = AreLines-nil
       by_case false =
-          let w = place_name prefix p in
+          let w = numbered_name prefix p in
           let aims = taker_aims n p n.arcs in
           subst (λ bs. AreLines (line (w ++ bs)) ((w ∷ aim_words aims) ∷ [])) (sym (takers-bytes n p n.arcs))
           (AreLines-line (w ++ aim_bytes aims) (w ∷ aim_words aims)
@@ -250,10 +250,10 @@ module _ (prefix : List ℕ) (n : NetLists) (formed : IsFormed prefix n) where
   Follow-entry : (p : ℕ) → p < length n.tokens → Follow (entry prefix n.tokens p) (entry_words prefix n.tokens p)
   Follow-entry p b = by_case (slice_index n.tokens p == 0)
     where
-      by_case : (c : Bool) → Follow (cond c [] (codes " " ++ place_name prefix p ++ tokens_group (slice_index n.tokens p))) (cond c [] (place_name prefix p ∷ token_words (slice_index n.tokens p)))
+      by_case : (c : Bool) → Follow (cond c [] (codes " " ++ numbered_name prefix p ++ tokens_group (slice_index n.tokens p))) (cond c [] (numbered_name prefix p ∷ token_words (slice_index n.tokens p)))
       by_case true = Follow-nil
-      by_case false = Follow-append (codes " " ++ place_name prefix p) (tokens_group (slice_index n.tokens p)) (place_name prefix p ∷ []) (token_words (slice_index n.tokens p))
-          (Follow-space (place_name prefix p) (place_name prefix p ∷ []) (AreWords-name (place_name prefix p) (formed.places p b)))
+      by_case false = Follow-append (codes " " ++ numbered_name prefix p) (tokens_group (slice_index n.tokens p)) (numbered_name prefix p ∷ []) (token_words (slice_index n.tokens p))
+          (Follow-space (numbered_name prefix p) (numbered_name prefix p ∷ []) (AreWords-name (numbered_name prefix p) (formed.places p b)))
           (Follow-tokens (slice_index n.tokens p) (All-get_or (λ k. k < 1000000000) n.tokens p 0 b formed.tokens))
 
   lines-marking : AreLines (marking_line prefix n.tokens) (marking_row prefix n.tokens ∷ [])

@@ -8,7 +8,7 @@ use Rattle.stg_net.specs.declared.arc.NetArc.{NetArc}
 use Rattle.stg_net.specs.Net.{NetLists, is_kind}
 use Rattle.stg_net.specs.Words.{trans_word}
 use Rattle.stg_net.specs.Ordered.{listed_below}
-use Rattle.astg_write.specs.PlaceNames.{place_prefix, place_name}
+use Rattle.astg_write.specs.PlaceNames.{place_prefix, numbered_name}
 
 -- the words, ended by LF
 abbrev pub line : List ℕ → List ℕ
@@ -23,13 +23,13 @@ abbrev pub of_kind : Kind → Signal → Bool
 of_kind kind s = is_kind kind s.kind
 
 -- the names of the signals of that kind, each after a space
-abbrev pub names_of : Kind → List Signal → List ℕ
-names_of kind [] = []
-names_of kind (s ∷ ss) = if of_kind kind s then codes " " ++ s.name ++ names_of kind ss else names_of kind ss
+abbrev pub spaced_names : Kind → List Signal → List ℕ
+spaced_names kind [] = []
+spaced_names kind (s ∷ ss) = if of_kind kind s then codes " " ++ s.name ++ spaced_names kind ss else spaced_names kind ss
 
 -- the line that declares the signals of that kind; none where there are none
 abbrev pub names_line : List ℕ → Kind → List Signal → List ℕ
-names_line directive kind signals = if list_any (of_kind kind) signals then line (directive ++ names_of kind signals) else []
+names_line directive kind signals = if list_any (of_kind kind) signals then line (directive ++ spaced_names kind signals) else []
 
 -- a weight above 1, as it stands after a target
 abbrev pub weight_group : ℕ → List ℕ
@@ -48,13 +48,13 @@ abbrev pub goes_out_of : ℕ → NetArc → Bool
 goes_out_of p a = not a.into && (a.place == p)
 
 -- the places to which the transition gives, each after a space and with its weight
-abbrev pub given_by : List ℕ → ℕ → List NetArc → List ℕ
-given_by prefix t [] = []
-given_by prefix t (a ∷ arcs) = if comes_from t a then codes " " ++ place_name prefix a.place ++ weight_group a.weight ++ given_by prefix t arcs else given_by prefix t arcs
+abbrev pub given_text : List ℕ → ℕ → List NetArc → List ℕ
+given_text prefix t [] = []
+given_text prefix t (a ∷ arcs) = if comes_from t a then codes " " ++ numbered_name prefix a.place ++ weight_group a.weight ++ given_text prefix t arcs else given_text prefix t arcs
 
 -- the line of the transition: its text, and the places to which it gives
 abbrev pub trans_line : List ℕ → NetLists → ℕ → List ℕ
-trans_line prefix n t = line (trans_word n.signals n.trans t ++ given_by prefix t n.arcs)
+trans_line prefix n t = line (trans_word n.signals n.trans t ++ given_text prefix t n.arcs)
 
 -- the transitions that take from the place, each after a space and with its weight
 abbrev pub takers_of : NetLists → ℕ → List NetArc → List ℕ
@@ -67,7 +67,7 @@ is_only_given arcs p = list_any (goes_into p) arcs && not (list_any (goes_out_of
 
 -- the line of the place; none where something gives to it and nothing takes from it
 abbrev pub place_line : List ℕ → NetLists → ℕ → List ℕ
-place_line prefix n p = if is_only_given n.arcs p then [] else line (place_name prefix p ++ takers_of n p n.arcs)
+place_line prefix n p = if is_only_given n.arcs p then [] else line (numbered_name prefix p ++ takers_of n p n.arcs)
 
 -- a number of tokens above 1, as it stands after a place
 abbrev pub tokens_group : ℕ → List ℕ
@@ -75,7 +75,7 @@ tokens_group k = if nat_le k 1 then [] else codes "=" ++ decimal k
 
 -- the entry of the place after a space; none where it has no tokens
 abbrev pub entry : List ℕ → List ℕ → ℕ → List ℕ
-entry prefix tokens p = if slice_index tokens p == 0 then [] else codes " " ++ place_name prefix p ++ tokens_group (slice_index tokens p)
+entry prefix tokens p = if slice_index tokens p == 0 then [] else codes " " ++ numbered_name prefix p ++ tokens_group (slice_index tokens p)
 
 -- the line of the marking: the entries in the order of the places
 abbrev pub marking_line : List ℕ → List ℕ → List ℕ

@@ -24,5 +24,5 @@ abbrev pub place_prefix : List Signal → List ℕ
 place_prefix signals = prefix_text (prefix_number signals)
 
 -- places are numbered from 1
-abbrev pub place_name : List ℕ → ℕ → List ℕ
-place_name prefix p = prefix ++ decimal (p + 1)
+abbrev pub numbered_name : List ℕ → ℕ → List ℕ
+numbered_name prefix p = prefix ++ decimal (p + 1)

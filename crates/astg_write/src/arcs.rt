@@ -4,7 +4,7 @@ ghost use Rattle.std.specs.Prelude.{◌≡◌, ◌+◌, ◌-◌, ◌<◌, ◌≤
 ghost use Rattle.std.specs.List.Sorted.{IsNonDecreasingBy, IsPartitionPoint};
 ghost use Rattle.stg_net.specs.declared.arc.NetArc.{NetArc};
 ghost use Rattle.stg_net.specs.Net.{IsBefore};
-ghost use Rattle.astg_write.specs.ComponentText.{given_by, is_only_given, takers_of};
+ghost use Rattle.astg_write.specs.ComponentText.{given_text, is_only_given, takers_of};
 
 use std::alloc::Global;
 use stg_net::{Net, NetArc, NoMemory};
@@ -43,7 +43,7 @@ pub(crate) fn arcs_of_place(net: &Net, place: u32) -> &[NetArc]
 /// The arcs of a net by their transitions; those of one transition keep their order.
 pub(crate) fn arcs_by_trans(alloc: Global, net: &Net) -> Result<Vec<NetArc>, NoMemory>
     ensures rise { IfOk result (λ arcs. IsNonDecreasingBy (λ (a : NetArc). a.trans) arcs.items) }
-    ensures given { IfOk result (λ arcs. (prefix : List ℕ) (t : ℕ) → given_by prefix t arcs.items ≡ given_by prefix t net.now.arcs) }
+    ensures given { IfOk result (λ arcs. (prefix : List ℕ) (t : ℕ) → given_text prefix t arcs.items ≡ given_text prefix t net.now.arcs) }
     ensures there { IfOk result (λ arcs. All (λ (a : NetArc). a.place < length net.now.tokens) arcs.items) }
 {
     let mut arcs = Vec::from_slice(alloc, net.arcs())?;
@@ -64,7 +64,7 @@ fn arcs_before(arcs: &[NetArc], trans: u32) -> usize
 pub(crate) fn arcs_of_trans(arcs: &[NetArc], trans: u32) -> &[NetArc]
     requires rise { IsNonDecreasingBy (λ (a : NetArc). a.trans) arcs.now }
     requires number { trans + 1 < 2 ^ 32 }
-    ensures given { (prefix : List ℕ) → given_by prefix trans result.now ≡ given_by prefix trans arcs.now }
+    ensures given { (prefix : List ℕ) → given_text prefix trans result.now ≡ given_text prefix trans arcs.now }
     ensures there { (places : ℕ) → All (λ (a : NetArc). a.place < places) arcs.now → All (λ (a : NetArc). a.place < places) result.now }
 {
     let from = arcs_before(arcs, trans);

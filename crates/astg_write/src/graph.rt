@@ -6,7 +6,7 @@ ghost use Rattle.std.specs.List.Sorted.{IsNonDecreasingBy};
 ghost use Rattle.stg_net.specs.declared.arc.NetArc.{NetArc};
 ghost use Rattle.stg_net.specs.Words.{trans_word};
 ghost use Rattle.stg_net.specs.Ordered.{listed_below};
-ghost use Rattle.astg_write.specs.ComponentText.{comes_from, goes_into, goes_out_of, weight_group, given_by, trans_line, takers_of, is_only_given, place_line, graph_lines};
+ghost use Rattle.astg_write.specs.ComponentText.{comes_from, goes_into, goes_out_of, weight_group, given_text, trans_line, takers_of, is_only_given, place_line, graph_lines};
 
 use crate::arcs::{arcs_by_trans, arcs_of_place, arcs_of_trans};
 use crate::number::push_number;
@@ -45,7 +45,7 @@ fn push_weight(text: &mut Text, weight: u32) -> Result<(), NoMemory>
 
 fn push_given(text: &mut Text, prefix: &[u8], trans: u32, arcs: &[NetArc]) -> Result<(), NoMemory>
     requires { All (λ (a : NetArc). a.place + 1 < 2 ^ 32) arcs.now }
-    ensures { OnOk result (text.new ≡ text.old ++ given_by prefix.now trans arcs.now) }
+    ensures { OnOk result (text.new ≡ text.old ++ given_text prefix.now trans arcs.now) }
 {
     for arc in arcs {
         if comes_from(trans, arc) {
@@ -77,7 +77,7 @@ fn push_trans_line(
     requires within { length net.now.trans < 2 ^ 32 }
     requires places { length net.now.tokens < 2 ^ 32 }
     requires rise { IsNonDecreasingBy (λ (a : NetArc). a.trans) arcs.now }
-    requires given { (p : List ℕ) (t : ℕ) → given_by p t arcs.now ≡ given_by p t net.now.arcs }
+    requires given { (p : List ℕ) (t : ℕ) → given_text p t arcs.now ≡ given_text p t net.now.arcs }
     requires ends { All (λ (a : NetArc). a.place < length net.now.tokens) arcs.now }
     ensures { OnOk result (text.new ≡ text.old ++ trans_line prefix.now net.now trans) }
 {

@@ -2,7 +2,7 @@
 
 ghost use Rattle.std.specs.Prelude.{◌≡◌, ◌++◌, IfOk, OnOk};
 ghost use Rattle.std.specs.List.{list_any};
-ghost use Rattle.astg_write.specs.ComponentText.{of_kind, names_of, names_line, model_line, header};
+ghost use Rattle.astg_write.specs.ComponentText.{of_kind, spaced_names, names_line, model_line, header};
 
 use crate::number::push_number;
 use std::alloc::Global;
@@ -31,7 +31,7 @@ fn any_of_kind(kind: Kind, signals: &[Signal]) -> bool
 }
 
 fn push_names(text: &mut Text, kind: Kind, signals: &[Signal]) -> Result<(), NoMemory>
-    ensures { OnOk result (text.new ≡ text.old ++ names_of kind signals.now) }
+    ensures { OnOk result (text.new ≡ text.old ++ spaced_names kind signals.now) }
 {
     for signal in signals {
         if is_of_kind(kind, signal) {

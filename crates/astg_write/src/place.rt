@@ -2,7 +2,7 @@
 
 ghost use Rattle.std.specs.Prelude.{◌≡◌, ◌+◌, ◌<◌, ◌^◌, ◌++◌, length, IfOk, OnOk};
 ghost use Rattle.std.specs.List.{list_any};
-ghost use Rattle.astg_write.specs.PlaceNames.{prefix_text, begins_with, is_free, place_prefix, place_name};
+ghost use Rattle.astg_write.specs.PlaceNames.{prefix_text, begins_with, is_free, place_prefix, numbered_name};
 
 use crate::number::push_number;
 use std::alloc::Global;
@@ -55,7 +55,7 @@ pub(crate) fn find_prefix(alloc: Global, signals: &[Signal]) -> Result<Text, NoM
 
 pub(crate) fn push_place(text: &mut Text, prefix: &[u8], place: u32) -> Result<(), NoMemory>
     requires { place + 1 < 2 ^ 32 }
-    ensures { OnOk result (text.new ≡ text.old ++ place_name prefix.now place) }
+    ensures { OnOk result (text.new ≡ text.old ++ numbered_name prefix.now place) }
 {
     text.extend_from_slice(prefix)?;
     push_number(text, place + 1)

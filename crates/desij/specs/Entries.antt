@@ -1,4 +1,4 @@
--- Lists of names with bytes.
+-- Lists of names with their bytes.
 use Rattle.std.specs.Prelude.{◌≡◌, ℕ, ◌<◌, List, [], ◌∷◌, ◌++◌, length, Option, None, Some, MatchOption, slice_get, slice_set, if◌then◌else◌}
 use Rattle.std.specs.Option.{option_map, option_map_or}
 use Rattle.std.specs.FinMap.{from_entries}
@@ -6,32 +6,32 @@ use Rattle.std.specs.Str.{bytes_eq}
 use Rattle.desij.specs.Outside.{Files}
 
 -- a name with its bytes
-abbrev pub Entry : Type 0
-Entry = List ℕ × List ℕ
+abbrev pub NamedBytes : Type 0
+NamedBytes = List ℕ × List ℕ
 
 -- the entries as a map, where the first entry of a name stands
-abbrev pub files_of : List Entry → Files
+abbrev pub files_of : List NamedBytes → Files
 files_of es = from_entries es
 
 -- the bytes of the first entry of that name
-abbrev pub bytes_of : List ℕ → List Entry → Option (List ℕ)
+abbrev pub bytes_of : List ℕ → List NamedBytes → Option (List ℕ)
 bytes_of name [] = None
 bytes_of name (e ∷ es) = if bytes_eq name e.0 then Some e.1 else bytes_of name es
 
 -- the entries with these bytes under that name: in the place of its first entry, or last
-abbrev pub put_entry : List ℕ → List ℕ → List Entry → List Entry
+abbrev pub put_entry : List ℕ → List ℕ → List NamedBytes → List NamedBytes
 put_entry name bytes [] = (name, bytes) ∷ []
 put_entry name bytes (e ∷ es) = if bytes_eq name e.0 then (name, bytes) ∷ es else e ∷ put_entry name bytes es
 
 -- the entries with this one at a place, or last
-abbrev pub put_at : Option ℕ → Entry → List Entry → List Entry
+abbrev pub put_at : Option ℕ → NamedBytes → List NamedBytes → List NamedBytes
 put_at None e es = es ++ e ∷ []
 put_at (Some i) e es = slice_set es i e
 
 -- the place of the first entry of that name
-abbrev pub IsPlaceOf : List ℕ → List Entry → Option ℕ → Type 0
-IsPlaceOf name es place = MatchOption place (bytes_of name es ≡ None) (λ i. (i < length es) × (bytes_of name es ≡ option_map (λ (e : Entry). e.1) (slice_get es i)))
+abbrev pub IsPlaceOf : List ℕ → List NamedBytes → Option ℕ → Type 0
+IsPlaceOf name es place = MatchOption place (bytes_of name es ≡ None) (λ i. (i < length es) × (bytes_of name es ≡ option_map (λ (e : NamedBytes). e.1) (slice_get es i)))
 
 -- the bytes of the entry at a place, none past the end
-abbrev pub bytes_at : List Entry → ℕ → List ℕ
-bytes_at es i = option_map_or (λ (e : Entry). e.1) (slice_get es i) []
+abbrev pub bytes_at : List NamedBytes → ℕ → List ℕ
+bytes_at es i = option_map_or (λ (e : NamedBytes). e.1) (slice_get es i) []

@@ -2,12 +2,12 @@
 use Rattle.std.specs.Prelude.{ℕ, List, [], Some}
 use Rattle.desij.specs.declared.calls.Calls.{Calls}
 use Rattle.desij.specs.Calls.{fresh_calls}
-use Rattle.desij.specs.Entries.{Entry, files_of}
+use Rattle.desij.specs.Entries.{NamedBytes, files_of}
 use Rattle.desij.specs.Outside.{SeenSource, SeenShelf, SeenSink}
 
 -- a source: its texts, what is left of the selected one, and the most that one read gives
 pub record SourceState : Type 0 where
-  pub texts : List Entry
+  pub texts : List NamedBytes
   pub left : List ℕ
   pub piece : ℕ
   pub selects : ℕ
@@ -15,7 +15,7 @@ pub record SourceState : Type 0 where
 
 -- a shelf: its files, in the order in which their names came
 pub record ShelfState : Type 0 where
-  pub files : List Entry
+  pub files : List NamedBytes
   pub calls : Calls
 
 -- a sink: the bytes written, and how many there can be
@@ -25,7 +25,7 @@ pub record SinkState : Type 0 where
   pub calls : Calls
 
 -- nothing is selected
-abbrev pub fresh_source : List Entry → ℕ → List ℕ → SourceState
+abbrev pub fresh_source : List NamedBytes → ℕ → List ℕ → SourceState
 fresh_source texts piece fails = record { texts = texts; left = []; piece = piece; selects = 0; calls = fresh_calls fails }
 
 -- no file

@@ -3,7 +3,7 @@
 ghost use Rattle.std.specs.Prelude.{◌≡◌, ◌≢◌, ◌+◌, ◌<◌, ◌≤◌, ◌↔◌, length, take, drop, min, AllPairs, IfOk, OnOk, OnErr, IsErr, is_some};
 ghost use Rattle.desij.specs.Outside.{HasCause, Reads, Selects};
 ghost use Rattle.desij.specs.Calls.{FailsNext, after_call, after_fault};
-ghost use Rattle.desij.specs.Entries.{Entry, bytes_at, bytes_of};
+ghost use Rattle.desij.specs.Entries.{NamedBytes, bytes_at, bytes_of};
 ghost use Rattle.desij.specs.Memory.{fresh_source, seen_source};
 
 use crate::calls::Calls;
@@ -38,7 +38,7 @@ impl Model for MemSource {
 impl MemSource {
     /// The calls whose numbers are in `fails` fail.
     pub fn new(texts: Seq<(Text, Text)>, piece: u32, fails: Nums) -> Self
-        requires names { AllPairs (λ (a b : Entry). a.0 ≢ b.0) texts }
+        requires names { AllPairs (λ (a b : NamedBytes). a.0 ≢ b.0) texts }
         requires piece { 1 ≤ piece }
         ensures { result ≡ fresh_source texts piece fails }
     {

@@ -5,22 +5,22 @@ use Rattle.std.proofs.lemmas.List.{get_or_past}
 use Rattle.stg_net.specs.declared.limits.TheConstants.Limits.{PART}
 use Rattle.stg_net.specs.Net.{NetLists, IsNet, IsWithin}
 use Rattle.stg_net.specs.Initial.{weight_of, initial}
-use Rattle.stg_net.proofs.Weights.{Joint, Joins, joins_whole, weight_of-arc, weight_of-joint, takes-initial, gives-initial, tokens_at-initial}
+use Rattle.stg_net.proofs.Weights.{ConnectingArc, Connects, connects_whole, weight_of-arc, weight_of-connecting, takes-initial, gives-initial, tokens_at-initial}
 use Rattle.edit_measure.specs.Measuring.{IsLight}
 
 -- a weight is that of one arc, or 0
 weight_of-le : (n : NetLists) (into : Bool) (t p : ℕ) → IsNet n → IsWithin PART n → weight_of n.arcs into t p ≤ 1000000
 weight_of-le n into t p net within = elim (cases_lt 0 (weight_of n.arcs into t p)) [
-  | inl some ↦ of_arc (weight_of-joint into t p n.arcs some)
+  | inl some ↦ of_arc (weight_of-connecting into t p n.arcs some)
   | inr nothing ↦ omega (arith, nothing)
 ]
   where
-    of_arc : Joint n.arcs into t p → weight_of n.arcs into t p ≤ 1000000
+    of_arc : ConnectingArc n.arcs into t p → weight_of n.arcs into t p ≤ 1000000
     of_arc j =
         let d = j.arc in
         omega (
           arith,
-          weight_of-arc into t p n.arcs j.at d net.ordered j.inside (joins_whole into t p (get_or n.arcs j.at d) (subst (Joins into t p) (sym (j.arc_is d)) j.joins_both)),
+          weight_of-arc into t p n.arcs j.at d net.ordered j.inside (connects_whole into t p (get_or n.arcs j.at d) (subst (Connects into t p) (sym (j.arc_is d)) j.connects_both)),
           within.weights j.at d j.inside,
         )
 

@@ -6,9 +6,9 @@ use Rattle.stg_net.specs.declared.trans.TransName.{TransName}
 use Rattle.stg_net.specs.declared.arc.NetArc.{NetArc}
 use Rattle.stg_net.specs.Net.{NetLists, IsNet, signal_at, trans_at, is_edge, IsBefore as IsArcBefore}
 use Rattle.stg_net.specs.Graph.{Graph, IsKnown, takes}
-use Rattle.stg_net.specs.Initial.{joins, full_name, graph_of}
+use Rattle.stg_net.specs.Initial.{connects, full_name, graph_of}
 use Rattle.stg_net.proofs.Edges.{is_edge-true, is_edge-itself}
-use Rattle.stg_net.proofs.Weights.{Joint, joins_whole, weight_of-arc, takes-graph_of, takes-joint, joint_there, full_name_at-graph_of}
+use Rattle.stg_net.proofs.Weights.{ConnectingArc, connects_whole, weight_of-arc, takes-graph_of, takes-connecting, connecting_there, full_name_at-graph_of}
 use Rattle.stg_net.proofs.Signals.{one_signal}
 use Rattle.stg_laws.proofs.Components.{net_all_known}
 use Rattle.stg_laws.specs.Cuts.{Label, label_of}
@@ -25,7 +25,7 @@ known_below n t net below = net_all_known n net t (ap is_some (full_name_at-grap
 
 takes_some : (n : NetLists) (a : NetArc) (i : ℕ) → IsNet n → i < length n.arcs → get_or n.arcs i a ≡ a → a.into ≡ false → 0 < takes (graph_of n) a.trans a.place
 takes_some n a i net inside a_is out =
-    let e = ap (joins false a.trans a.place) a_is ∙ joins_whole false a.trans a.place a (record { trans_is = refl; place_is = refl; goes_is = out }) in
+    let e = ap (connects false a.trans a.place) a_is ∙ connects_whole false a.trans a.place a (record { trans_is = refl; place_is = refl; goes_is = out }) in
     omega (arith, takes-graph_of n a.trans a.place net, weight_of-arc false a.trans a.place n.arcs i a net.ordered inside e, (net.arcs i a inside).positive)
 
 out_ascends : (a b : NetArc) → IsArcBefore a b → a.place ≡ b.place → a.into ≡ false → b.into ≡ false → a.trans < b.trans
@@ -87,40 +87,40 @@ clashing_whole : (trans : List TransName) (a b : NetArc) → have_label (trans_a
 clashing_whole trans a b label a_out b_out = rw label (rw a_out (rw b_out refl))
 
 -- of two arcs of one place, that of the lesser transition stands first
-joints_ascend : (n : NetLists) (t u p : ℕ) → IsNet n → t < u → (j : Joint n.arcs false t p) (k : Joint n.arcs false u p) → j.at < k.at
-joints_ascend n t u p net lt j k = elim (cases_order j.at k.at) [
+connecting_ascend : (n : NetLists) (t u p : ℕ) → IsNet n → t < u → (j : ConnectingArc n.arcs false t p) (k : ConnectingArc n.arcs false u p) → j.at < k.at
+connecting_ascend n t u p net lt j k = elim (cases_order j.at k.at) [
   | inl same ↦
       let one : j.arc ≡ k.arc = sym (j.arc_is j.arc) ∙ ap (λ i. get_or n.arcs i j.arc) same ∙ k.arc_is j.arc in
-      absurd (omega (arith, lt, j.joins_both.trans_is, k.joins_both.trans_is, ap (λ (a : NetArc). a.trans) one))
+      absurd (omega (arith, lt, j.connects_both.trans_is, k.connects_both.trans_is, ap (λ (a : NetArc). a.trans) one))
   | inr o ↦ elim o [
     | inl up ↦ up
     | inr down ↦
         let before : IsArcBefore k.arc j.arc = subst (λ (a : NetArc). IsArcBefore a j.arc) (k.arc_is j.arc) (subst (IsArcBefore (get_or n.arcs k.at j.arc)) (j.arc_is j.arc) (net.ordered k.at j.at j.arc down j.inside)) in
-        absurd (omega (arith, lt, trans_up k.arc j.arc before (k.joins_both.place_is ∙ sym j.joins_both.place_is), j.joins_both.trans_is, k.joins_both.trans_is))
+        absurd (omega (arith, lt, trans_up k.arc j.arc before (k.connects_both.place_is ∙ sym j.connects_both.place_is), j.connects_both.trans_is, k.connects_both.trans_is))
   ]
 ]
 
 -- a clash of the graph is that of two arcs that clash
 pub clash_found : (n : NetLists) (c : Clash) → IsNet n → IsClash (graph_of n) c → Found n.trans n.arcs c
-clash_found n c net clash = found (takes-joint n c.t1 c.place net clash.conflict.t_takes) (takes-joint n c.t2 c.place net clash.conflict.u_takes)
+clash_found n c net clash = found (takes-connecting n c.t1 c.place net clash.conflict.t_takes) (takes-connecting n c.t2 c.place net clash.conflict.u_takes)
   where
-    found : Joint n.arcs false c.t1 c.place → Joint n.arcs false c.t2 c.place → Found n.trans n.arcs c
+    found : ConnectingArc n.arcs false c.t1 c.place → ConnectingArc n.arcs false c.t2 c.place → Found n.trans n.arcs c
     found j k =
         let P : ℕ → Type 0 = λ t. have_label (trans_at n.trans t) (trans_at n.trans c.t2) ≡ true in
         let Q : ℕ → Type 0 = λ u. have_label (trans_at n.trans j.arc.trans) (trans_at n.trans u) ≡ true in
-        let label = labels n c.t1 c.t2 net (joint_there n false c.t1 c.place net j) (joint_there n false c.t2 c.place net k) clash.conflict.rivals in
+        let label = labels n c.t1 c.t2 net (connecting_there n false c.t1 c.place net j) (connecting_there n false c.t2 c.place net k) clash.conflict.rivals in
         record {
           first = j.at;
           second = k.at;
-          ascends = joints_ascend n c.t1 c.t2 c.place net clash.ascends j k;
+          ascends = connecting_ascend n c.t1 c.t2 c.place net clash.ascends j k;
           inside = k.inside;
           one = j.arc;
           one_is = j.arc_is;
           other = k.arc;
           other_is = k.arc_is;
-          same_place = k.joins_both.place_is ∙ sym j.joins_both.place_is;
-          clashing = clashing_whole n.trans j.arc k.arc (subst Q (sym k.joins_both.trans_is) (subst P (sym j.joins_both.trans_is) label)) j.joins_both.goes_is k.joins_both.goes_is;
-          c_is = (λ i. record { t1 = sym j.joins_both.trans_is i; t2 = sym k.joins_both.trans_is i; place = sym j.joins_both.place_is i });
+          same_place = k.connects_both.place_is ∙ sym j.connects_both.place_is;
+          clashing = clashing_whole n.trans j.arc k.arc (subst Q (sym k.connects_both.trans_is) (subst P (sym j.connects_both.trans_is) label)) j.connects_both.goes_is k.connects_both.goes_is;
+          c_is = (λ i. record { t1 = sym j.connects_both.trans_is i; t2 = sym k.connects_both.trans_is i; place = sym j.connects_both.place_is i });
         }
 
 turned : (g : Graph) (t u : ℕ) → AreRivals g t u → AreRivals g u t

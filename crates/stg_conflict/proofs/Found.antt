@@ -7,7 +7,7 @@ use Rattle.stg_net.specs.declared.trans.TransName.{TransName}
 use Rattle.stg_net.specs.declared.arc.NetArc.{NetArc}
 use Rattle.stg_net.specs.Net.{IsBefore as IsArcBefore}
 use Rattle.stg_conflict.specs.declared.clash.Clash.{Clash}
-use Rattle.stg_conflict.specs.Clash.{IsBefore}
+use Rattle.stg_conflict.specs.Clash.{IsLesser}
 use Rattle.stg_conflict.specs.Search.{are_clashing, first_clash, least_clash, lesser}
 use Rattle.stg_conflict.proofs.Orders.{IsReached, lesser_first, lesser_second, lesser_one}
 
@@ -80,7 +80,7 @@ trans_up a b before same = elim before [
   | inr s ↦ elim s.1 [ inl l ↦ omega arith | inr r ↦ omega (arith, r.0) ]
 ]
 
-not_before_up : (a x b : NetArc) → x.trans ≤ b.trans → IsBefore (clash_of a b) (clash_of a x) → ⊥
+not_before_up : (a x b : NetArc) → x.trans ≤ b.trans → IsLesser (clash_of a b) (clash_of a x) → ⊥
 not_before_up a x b up before = elim before [
   | inl l ↦ absurd (omega (arith, l))
   | inr r ↦ elim r.1 [ inl l ↦ absurd (omega (arith, l, up)) | inr s ↦ absurd (omega (arith, s.1)) ]

@@ -5,13 +5,13 @@ use Rattle.stg_net.specs.declared.arc.NetArc.{NetArc}
 use Rattle.stg_net.specs.Net.{trans_at, is_edge}
 use Rattle.stg_conflict.specs.declared.clash.Clash.{Clash}
 
--- by the first transition, then by the second, then by the place
-abbrev pub is_before : Clash → Clash → Bool
-is_before c d = nat_lt c.t1 d.t1 || (c.t1 == d.t1) && (nat_lt c.t2 d.t2 || (c.t2 == d.t2) && nat_lt c.place d.place)
+-- whether c is the lesser: by the first transition, then by the second, then by the place
+abbrev pub is_lesser : Clash → Clash → Bool
+is_lesser c d = nat_lt c.t1 d.t1 || (c.t1 == d.t1) && (nat_lt c.t2 d.t2 || (c.t2 == d.t2) && nat_lt c.place d.place)
 
 -- the lesser of two, where there is one
 abbrev pub lesser : Option Clash → Option Clash → Option Clash
-lesser (Some c) (Some d) = Some (if is_before d c then d else c)
+lesser (Some c) (Some d) = Some (if is_lesser d c then d else c)
 lesser (Some c) None = Some c
 lesser None d = d
 

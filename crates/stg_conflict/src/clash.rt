@@ -1,7 +1,7 @@
 //! Clashes and their order.
 
 ghost use Rattle.std.specs.Prelude.{◌≡◌};
-ghost use Rattle.stg_conflict.specs.Search.{is_before, lesser};
+ghost use Rattle.stg_conflict.specs.Search.{is_lesser, lesser};
 
 /// Two transitions of one label, and a place from which both take.
 #[derive(Clone, Copy, Debug, PartialEq, Eq)]
@@ -14,8 +14,8 @@ pub struct Clash {
     pub place: u32,
 }
 
-fn comes_before(c: Clash, d: Clash) -> bool
-    ensures { result ≡ is_before c d }
+fn is_lesser(c: Clash, d: Clash) -> bool
+    ensures { result ≡ is_lesser c d }
 {
     c.t1 < d.t1 || c.t1 == d.t1 && (c.t2 < d.t2 || c.t2 == d.t2 && c.place < d.place)
 }
@@ -25,7 +25,7 @@ pub(crate) fn least_of(one: Option<Clash>, other: Option<Clash>) -> Option<Clash
     ensures { result ≡ lesser one other }
 {
     match (one, other) {
-        (Some(c), Some(d)) => Some(if comes_before(d, c) { d } else { c }),
+        (Some(c), Some(d)) => Some(if is_lesser(d, c) { d } else { c }),
         (None, other) => other,
         (one, None) => one,
     }

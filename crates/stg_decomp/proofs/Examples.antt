@@ -41,7 +41,7 @@ all = 0 ∷ 1 ∷ 2 ∷ 3 ∷ []
 abbrev group : List ℕ → List ℕ → Group
 group own known = record { own = own; known = known }
 
--- each part shows the other output as an input, which stands before its own output
+-- each part has the other output as an input, which stands before its own output
 handshake_parts : parts_of handshakes (group (2 ∷ []) (0 ∷ 2 ∷ []) ∷ group (3 ∷ []) (1 ∷ 3 ∷ []) ∷ []) ≡
     record {
       net = record { signals = input (codes "r1") ∷ input (codes "r2") ∷ input (codes "a2") ∷ output (codes "a1") ∷ []; trans = transitions 0 1 3 2; tokens = tokens; arcs = arcs };

@@ -10,14 +10,14 @@ use Rattle.stg_net.specs.Net.{NetLists, IsNet}
 use Rattle.stg_net.specs.Ordered.{ordered}
 use Rattle.stg_net.proofs.Members.{one_of-contained, Contains-range}
 use Rattle.stg_net.proofs.Moved.{ordered-IsNet}
-use Rattle.stg_net.proofs.Shown.{component-IsNet}
+use Rattle.stg_net.proofs.ComponentSignals.{component-IsNet}
 use Rattle.stg_laws.specs.Deterministic.{IsDeterministic}
 use Rattle.stg_laws.specs.Stgs.{Stg, IsStg, no_stg, stg_of, stg_at}
 use Rattle.stg_laws.specs.Correct.{AreWired, IsCorrect}
 use Rattle.stg_laws.specs.Faithful.{IsFaithful, AreComponents}
-use Rattle.stg_laws.proofs.Components.{net_is_stg, seen_is_faithful, seen_shows}
+use Rattle.stg_laws.proofs.Components.{net_is_stg, seen_is_faithful, is_group_component}
 use Rattle.stg_laws.proofs.Correctness.{faithful_parts_are_correct}
-use Rattle.stg_laws.proofs.Wiring.{ShowsGroup, AreGroups, shown_groups_are_wired}
+use Rattle.stg_laws.proofs.Wiring.{IsGroupComponent, AreGroups, group_components_are_wired}
 use Rattle.stg_partition.specs.declared.group.Group.{Group}
 use Rattle.stg_partition.specs.PlainGroups.{ArePlainGroups}
 use Rattle.stg_decomp.specs.declared.part.Part.{Part}
@@ -31,7 +31,7 @@ module _ (n : NetLists) (net : IsNet n) (groups : List Group) (plain : ArePlainG
   components : List Stg
   components = map stg_of (nets_of (parts_of n groups))
 
-  -- what a group with these own signals is shown as
+  -- the component of a group with these own signals
   stg_here : List ℕ → Stg
   stg_here own = stg_of (ordered (component own (shared (length groups) own) n))
 
@@ -56,12 +56,12 @@ module _ (n : NetLists) (net : IsNet n) (groups : List Group) (plain : ArePlainG
   unfolding known
   all_known k below = one_of-contained known k (Contains-range (length n.signals) k below)
 
-  shows_here : (i : ℕ) → i < length components → ShowsGroup n (own_at groups i) known (shared (length groups) (own_at groups i)) (stg_at components i)
+  group_component_here : (i : ℕ) → i < length components → IsGroupComponent n (own_at groups i) known (shared (length groups) (own_at groups i)) (stg_at components i)
   unfolding stg_here
-  shows_here i there =
+  group_component_here i there =
       let own = own_at groups i in
-      let P : Stg → Type 0 = λ x. ShowsGroup n own known (shared (length groups) own) x in
-      subst P (sym (component_at i there)) (seen_shows n net own known (shared (length groups) own) all_known)
+      let P : Stg → Type 0 = λ x. IsGroupComponent n own known (shared (length groups) own) x in
+      subst P (sym (component_at i there)) (is_group_component n net own known (shared (length groups) own) all_known)
 
   others_share : (i j k : ℕ) → i < length groups → j < length groups → i ≢ j → is_one_of (own_at groups i) k ≡ true → is_one_of known k ≡ true → is_one_of (shared (length groups) (own_at groups i)) k ≡ true
   others_share i j k hi hj other mine theirs = ap (λ b. is_one_of (cond b (own_at groups i) []) k) (lt-ltb 1 (length groups) (omega arith)) ∙ mine
@@ -85,7 +85,7 @@ module _ (n : NetLists) (net : IsNet n) (groups : List Group) (plain : ArePlainG
       subst IsStg (sym (component_at i there)) (net_is_stg (ordered seen) (ordered-IsNet seen (component-IsNet own (shared (length groups) own) n net)))
 
   are_wired : AreWired (stg_of n) components
-  are_wired = shown_groups_are_wired n net components (own_at groups) (λ i. known) (λ i. shared (length groups) (own_at groups i)) are_groups shows_here
+  are_wired = group_components_are_wired n net components (own_at groups) (λ i. known) (λ i. shared (length groups) (own_at groups i)) are_groups group_component_here
 
   are_correct : IsDeterministic (graph_of n) → IsCorrect (stg_of n) components
   are_correct deterministic = faithful_parts_are_correct (stg_of n) components deterministic are_wired is_stg is_faithful

@@ -28,8 +28,8 @@ fn make_part(alloc: Global, net: &Net, group: &Group, many: usize) -> Result<Par
     let own = Seq::from_slice(alloc, group.own.as_slice())?;
     let known = numbers_below(alloc, net.signals().len() as u32)?;
     let shared = if many > 1 { own.as_slice() } else { &[] };
-    let shown = net.component(alloc, own.as_slice(), shared)?;
-    let net = ordered(alloc, &shown)?;
+    let component = net.component(alloc, own.as_slice(), shared)?;
+    let net = ordered(alloc, &component)?;
     Ok(Part { net, own, known })
 }
 

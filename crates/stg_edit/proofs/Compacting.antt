@@ -14,7 +14,7 @@ use Rattle.stg_net.specs.declared.trans.TransName.{TransName}
 use Rattle.stg_net.specs.declared.arc.NetArc.{NetArc}
 use Rattle.stg_net.specs.Net.{NetLists, IsNet, IsArcOf, signal_at}
 use Rattle.stg_net.specs.Graph.{Graph, Place, FullName, IsPlace, IsTrans, IsDummy, is_among, has_signal_of, place_at, full_name_at, tokens_at, tokens_in, takes, gives, taken_by, given_by}
-use Rattle.stg_net.specs.Initial.{weight_of, row, place_of, graph_of}
+use Rattle.stg_net.specs.Initial.{weight_of, weight_list, place_of, graph_of}
 use Rattle.stg_net.specs.Ordered.{new_number, numbers_where}
 use Rattle.stg_net.proofs.Buckets.{numbers_where-filter, length-listed_below}
 use Rattle.stg_net.proofs.Maps.{AllPairs-map}
@@ -118,7 +118,7 @@ place_same g n places trans q None tokens long arcs low here live = absurd (fals
 place_same g n places trans q (Some x) tokens long arcs low here live =
     let p = get_or places q 0 in
     let count : x.tokens ≡ slice_index n.tokens q = sym (ap (λ xs. get_or xs q 0) tokens ∙ get_or-map (tokens_at g) places q 0 0 low ∙ ap tokens_in here) in
-    let weights : (into : Bool) (xs : List ℕ) → ((u : ℕ) → u < length trans → weight_of (all_arcs g places trans) into u q ≡ slice_index xs (slice_index trans u)) → map (slice_index xs) trans ≡ row (length n.trans) (λ t. weight_of n.arcs into t q) =
+    let weights : (into : Bool) (xs : List ℕ) → ((u : ℕ) → u < length trans → weight_of (all_arcs g places trans) into u q ≡ slice_index xs (slice_index trans u)) → map (slice_index xs) trans ≡ weight_list (length n.trans) (λ t. weight_of n.arcs into t q) =
     λ into xs same. fill_by_all (λ t. weight_of n.arcs into t q) (map (slice_index xs) trans) (length n.trans) 0 (length-map trans (slice_index xs) ∙ sym long)
     (λ u below. get_or-map (slice_index xs) trans u 0 0 (omega (arith, long)) ∙ sym (same u (omega (arith, long))) ∙ ap (λ list. weight_of list into u q) (sym arcs)) in
     let taken = weights false x.taken (λ u below. listed_taken g places trans u q below low ∙ ap (taken_by (slice_index trans u)) here) in

@@ -16,7 +16,7 @@ use Rattle.stg_edit.specs.Editing.{IsNode, without_node}
 use Rattle.stg_edit.specs.View.{spare_of}
 use Rattle.stg_edit.proofs.Marks.{both}
 use Rattle.stg_edit.proofs.Pigeons.{at_most_below}
-use Rattle.stg_net.specs.Initial.{row}
+use Rattle.stg_net.specs.Initial.{weight_list}
 
 -- places made of tables that agree
 pub same_place : (n : ℕ) (x y : Table) (p : ℕ) → x.is_live p ≡ y.is_live p → x.tokens p ≡ y.tokens p → ((t : ℕ) → x.take_weight t p ≡ y.take_weight t p) → ((t : ℕ) → x.give_weight t p ≡ y.give_weight t p) → place_of n x p ≡ place_of n y p
@@ -46,7 +46,7 @@ draft_without_place base k l l' n g t =
     let places = map_but (place_of (length l.trans) (table_at l (length l.log))) (place_of (length l'.trans) (table_at l' (length l.log + 1))) n k None
     (λ p r ne. ap (λ m. place_of m (table_at l' (length l.log + 1)) p) (g.as_many false)
     ∙ same_place (length l.trans) (table_at l' (length l.log + 1)) (table_at l (length l.log)) p (live_later true k l l' true p g t (g.others p ne)) (g.tokens p) (λ u. weights true u p) (λ u. weights false u p))
-    (ap (λ z. cond z (Some (record { tokens = (spot_at l'.places k).tokens; taken = row (length l'.trans) (λ u. weight_at l' (length l.log + 1) true u k); given = row (length l'.trans) (λ u. weight_at l' (length l.log + 1) false u k) })) None)
+    (ap (λ z. cond z (Some (record { tokens = (spot_at l'.places k).tokens; taken = weight_list (length l'.trans) (λ u. weight_at l' (length l.log + 1) true u k); given = weight_list (length l'.trans) (λ u. weight_at l' (length l.log + 1) false u k) })) None)
     (lt-leb (length l.log + 1) (died l' true k) (omega (arith, g.here)))) in
     let trans = ap (λ m. map (trans_of l' base.names (length l.log + 1)) (range_with_len 0 m)) (g.as_many false)
     ∙ same_map (trans_of l' base.names (length l.log + 1)) (trans_of l base.names (length l.log)) (length l.trans) (λ u r. ap (λ z. cond z (slice_get base.names u) None) (live_later true k l l' false u g t (g.far u))) in
@@ -66,8 +66,8 @@ draft_without_trans base k l l' n g t =
     (ap (λ z. cond z (slice_get base.names k) None) (lt-leb (length l.log + 1) (died l' false k) (omega (arith, g.here)))) in
     λ i. record { places = places i; trans = trans i; known = base.known; first_places = base.first_places }
   where
-    weights : (take : Bool) (p : ℕ) → row (length l'.trans) (λ u. weight_at l' (length l.log + 1) take u p) ≡ set (row (length l.trans) (λ u. weight_at l (length l.log) take u p)) k 0
-    weights take p = ap (λ m. row m (λ u. weight_at l' (length l.log + 1) take u p)) (g.as_many false)
+    weights : (take : Bool) (p : ℕ) → weight_list (length l'.trans) (λ u. weight_at l' (length l.log + 1) take u p) ≡ set (weight_list (length l.trans) (λ u. weight_at l (length l.log) take u p)) k 0
+    weights take p = ap (λ m. weight_list m (λ u. weight_at l' (length l.log + 1) take u p)) (g.as_many false)
         ∙ map_but (λ u. weight_at l (length l.log) take u p) (λ u. weight_at l' (length l.log + 1) take u p) (length l.trans) k 0
         (λ u r ne. ap (λ z. cond z (weight l'.arcs take p u) 0) (live_later false k l l' false u g t (g.others u ne)) ∙ ap (λ xs. cond (leb (length l.log) (died l false u)) (weight xs take p u) 0) g.arcs)
         (ap (λ z. cond z (weight l'.arcs take p k) 0) (lt-leb (length l.log + 1) (died l' false k) (omega (arith, g.here))))

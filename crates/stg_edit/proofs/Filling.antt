@@ -10,7 +10,7 @@ use Rattle.stg_net.specs.declared.trans.Edge.TheVariants.{Rise}
 use Rattle.stg_net.specs.declared.trans.TransName.{TransName}
 use Rattle.stg_net.specs.declared.arc.NetArc.{NetArc}
 use Rattle.stg_net.specs.Net.{NetLists, IsNet, IsBefore}
-use Rattle.stg_net.specs.Initial.{goes, joins, weight_of as net_weight, initial, full_name, place_of as net_place_of}
+use Rattle.stg_net.specs.Initial.{goes, connects, weight_of as net_weight, initial, full_name, place_of as net_place_of}
 use Rattle.stg_edit.specs.declared.arena.Arc.{Arc}
 use Rattle.stg_edit.specs.declared.arena.Spot.{Spot}
 use Rattle.stg_edit.specs.Layout.{Layout, none, no_spot, spot_at, arc_at, died, head_arc, IsLaid, IsPastAll, IsPushedArc, IsPushedPlace}
@@ -27,7 +27,7 @@ use Rattle.stg_edit.proofs.Tables.{same_map}
 
 -- what an arc of a net counts for the weight between p and t
 abbrev net_share : Bool → ℕ → ℕ → NetArc → ℕ
-net_share b p t x = cond (joins (not b) t p x) x.weight 0
+net_share b p t x = cond (connects (not b) t p x) x.weight 0
 
 -- the cell of an arc that stands alone
 abbrev pub lone_arc : Bool → ℕ → ℕ → ℕ → Arc

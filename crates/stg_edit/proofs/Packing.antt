@@ -9,11 +9,11 @@ use Rattle.std.proofs.lemmas.List.Sums.{sum_by-append}
 use Rattle.stg_net.specs.declared.arc.NetArc.{NetArc}
 use Rattle.stg_net.specs.Net.{IsArcOf, IsBefore}
 use Rattle.stg_net.specs.Graph.{Graph, takes, gives}
-use Rattle.stg_net.specs.Initial.{joins, weight_of}
+use Rattle.stg_net.specs.Initial.{connects, weight_of}
 use Rattle.stg_net.specs.Ordered.{listed_below}
 use Rattle.stg_net.proofs.Buckets.{All-listed_below}
 use Rattle.stg_net.proofs.Moved.{AllPairs-append}
-use Rattle.stg_net.proofs.Weights.{Joins, joins_parts, joins_whole, share, share_here, share_none, weight_of-cons}
+use Rattle.stg_net.proofs.Weights.{Connects, connects_parts, connects_whole, share, share_here, share_none, weight_of-cons}
 use Rattle.stg_edit.specs.Walks.{weighted_from, weighted}
 use Rattle.stg_edit.specs.Packing.{weighted_arc, arcs_between, row_arcs, all_arcs}
 
@@ -87,14 +87,14 @@ filled_in n w row rest same f = (subst (IsFilling n w row) same f).right
 arc_share : (into : Bool) (t p : ℕ) (a : NetArc) → weight_of (weighted_arc a) into t p ≡ share into t p a
 arc_share into t p a = elim (cases_lt 0 a.weight) [
   | inl some ↦ rw (lt-ltb 0 a.weight some) (omega (arith, weight_of-cons into t p a []))
-  | inr none ↦ rw (le-ltb 0 a.weight none) (cond_both (joins into t p a) a.weight 0 (λ k. 0 ≡ k) (λ yes. omega arith) (λ otherwise. refl))
+  | inr none ↦ rw (le-ltb 0 a.weight none) (cond_both (connects into t p a) a.weight 0 (λ k. 0 ≡ k) (λ yes. omega arith) (λ otherwise. refl))
 ]
 
 arc_here : (a : NetArc) → weight_of (weighted_arc a) a.into a.trans a.place ≡ a.weight
-arc_here a = arc_share a.into a.trans a.place a ∙ share_here a.into a.trans a.place a (joins_whole a.into a.trans a.place a (record { trans_is = refl; place_is = refl; goes_is = refl }))
+arc_here a = arc_share a.into a.trans a.place a ∙ share_here a.into a.trans a.place a (connects_whole a.into a.trans a.place a (record { trans_is = refl; place_is = refl; goes_is = refl }))
 
-arc_else : (into : Bool) (t p : ℕ) (a : NetArc) → (Joins into t p a → ⊥) → weight_of (weighted_arc a) into t p ≡ 0
-arc_else into t p a apart = arc_share into t p a ∙ share_none into t p a (false_from_ne_true _ (λ e. apart (joins_parts into t p a e)))
+arc_else : (into : Bool) (t p : ℕ) (a : NetArc) → (Connects into t p a → ⊥) → weight_of (weighted_arc a) into t p ≡ 0
+arc_else into t p a apart = arc_share into t p a ∙ share_none into t p a (false_from_ne_true _ (λ e. apart (connects_parts into t p a e)))
 
 weight_append : (into : Bool) (t p : ℕ) (xs ys : List NetArc) → weight_of (xs ++ ys) into t p ≡ weight_of xs into t p + weight_of ys into t p
 weight_append into t p xs ys = sum_by-append (share into t p) xs ys

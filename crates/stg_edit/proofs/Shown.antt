@@ -14,7 +14,7 @@ use Rattle.stg_net.specs.Graph.{Graph, Place, FullName, IsPlace, IsTrans, IsDumm
 use Rattle.stg_edit.specs.Table.{place_of, places_of}
 use Rattle.stg_edit.specs.Layout.{Layout, count_of, none, died, spot_at, IsTimed}
 use Rattle.stg_edit.specs.Drafting.{Base, weight, weight_at, table_at, trans_of, now_of}
-use Rattle.stg_net.specs.Initial.{row}
+use Rattle.stg_net.specs.Initial.{weight_list}
 
 -- what doesn't bear a mark of removal is live at the moment
 pub alive : (l : Layout) (b : Bool) (k : ℕ) → IsTimed l → died l b k ≡ none → leb (length l.log) (died l b k) ≡ true
@@ -24,8 +24,8 @@ alive l b k t live = le-leb (length l.log) (died l b k) (omega (arith, t.room, t
 abbrev pub shown_place : Layout → ℕ → Place
 shown_place l p = record {
   tokens = (spot_at l.places p).tokens;
-  taken = row (length l.trans) (λ t. weight_at l (length l.log) true t p);
-  given = row (length l.trans) (λ t. weight_at l (length l.log) false t p);
+  taken = weight_list (length l.trans) (λ t. weight_at l (length l.log) true t p);
+  given = weight_list (length l.trans) (λ t. weight_at l (length l.log) false t p);
 }
 
 pub place_now : (base : Base) (l : Layout) (p : ℕ) → IsTimed l → p < length l.places → died l true p ≡ none → place_at (now_of base l) p ≡ Some (shown_place l p)

@@ -5,7 +5,7 @@ use Rattle.std.proofs.lemmas.Bool.{cases_eq, cases_lt, cases_Bool}
 use Rattle.std.proofs.lemmas.List.{length-set, get_or-set_same, get_or-set_other, same_lists, length-map, length-append, get_or_append_left, get_or-append_right, get_or-map}
 use Rattle.std.proofs.lemmas.List.FromFn.{length-map-range_with_len, get_or-map-range_with_len}
 use Rattle.stg_net.specs.Graph.{Graph, Place, place_at, tokens_at, takes, gives}
-use Rattle.stg_net.specs.Contraction.{contracted, pairs_round, untouched, joined, is_touched}
+use Rattle.stg_net.specs.Contraction.{contracted, pairs_round, remaining_place, pair_place, is_touched}
 use Rattle.stg_edit.specs.Table.{Table, place_of, places_of}
 
 -- two lists made of functions that agree
@@ -47,13 +47,13 @@ pub record ShowsContraction (g : Graph) (t : ℕ) (y : Table) : Type 0 where
 
 pub shows_contraction : (g : Graph) (t : ℕ) (y : Table) → ShowsContraction g t y → places_of (length g.places + length (pairs_round g t)) (length g.trans) y ≡ (contracted g t).places
 shows_contraction g t y s =
-    ap (λ n. map (place_of (length g.trans) y) (range_with_len 0 (length g.places + n))) (sym (length-map (pairs_round g t) (joined g t)))
-    ∙ map_appends (place_of (length g.trans) y) (length g.places) (untouched g t) (map (joined g t) (pairs_round g t)) old new
+    ap (λ n. map (place_of (length g.trans) y) (range_with_len 0 (length g.places + n))) (sym (length-map (pairs_round g t) (pair_place g t)))
+    ∙ map_appends (place_of (length g.trans) y) (length g.places) (remaining_place g t) (map (pair_place g t) (pairs_round g t)) old new
   where
-    old : (p : ℕ) → p < length g.places → place_of (length g.trans) y p ≡ untouched g t p
+    old : (p : ℕ) → p < length g.places → place_of (length g.trans) y p ≡ remaining_place g t p
     old p l = elim (cases_Bool (is_touched g t p)) [ inl b ↦ rw b (rw (s.gone p l b)) | inr b ↦ rw b (s.kept p l b) ]
 
-    there : (k : ℕ) → k < length (pairs_round g t) → place_of (length g.trans) y (length g.places + k) ≡ joined g t (get_or (pairs_round g t) k (0, 0))
+    there : (k : ℕ) → k < length (pairs_round g t) → place_of (length g.trans) y (length g.places + k) ≡ pair_place g t (get_or (pairs_round g t) k (0, 0))
     there k l =
         let pq = get_or (pairs_round g t) k (0, 0) in
         let tokens = s.tokens k pq.0 pq.1 l refl in
@@ -61,5 +61,5 @@ shows_contraction g t y s =
         let given = same_map (λ u. y.give_weight u (length g.places + k)) (λ u. cond (eqb u t) 0 (gives g u pq.0 + gives g u pq.1)) (length g.trans) (λ u h. s.given k pq.0 pq.1 u l refl h) in
         rw (s.live k l) (λ i. Some (record { tokens = tokens i; taken = taken i; given = given i }))
 
-    new : (k : ℕ) (d : Option Place) → k < length (map (joined g t) (pairs_round g t)) → place_of (length g.trans) y (length g.places + k) ≡ get_or (map (joined g t) (pairs_round g t)) k d
-    new k d l = let m : k < length (pairs_round g t) = rw length-map at l in there k m ∙ sym (get_or-map (joined g t) (pairs_round g t) k (0, 0) d m)
+    new : (k : ℕ) (d : Option Place) → k < length (map (pair_place g t) (pairs_round g t)) → place_of (length g.trans) y (length g.places + k) ≡ get_or (map (pair_place g t) (pairs_round g t)) k d
+    new k d l = let m : k < length (pairs_round g t) = rw length-map at l in there k m ∙ sym (get_or-map (pair_place g t) (pairs_round g t) k (0, 0) d m)

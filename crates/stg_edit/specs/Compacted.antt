@@ -3,7 +3,7 @@ use Rattle.std.specs.Prelude.{◌≡◌, ℕ, List, Option, Some, None, filter, 
 use Rattle.std.specs.List.{range_with_len}
 use Rattle.stg_net.specs.declared.signal.Signal.{Signal}
 use Rattle.stg_net.specs.Net.{NetLists, signal_at}
-use Rattle.stg_net.specs.Component.{shown}
+use Rattle.stg_net.specs.Component.{component_signal}
 use Rattle.stg_net.specs.Graph.{Graph, Place, is_among, place_at, full_name_at}
 use Rattle.stg_net.specs.Initial.{graph_of}
 use Rattle.stg_edit.specs.Counted.{live_places}
@@ -31,7 +31,7 @@ known_signals signals g = filter (λ s. is_among g.known (signal_at signals s).n
 
 -- the signal of that number: an own one keeps its kind, and every other one is an input
 abbrev pub signal_shown : List Signal → List ℕ → ℕ → Signal
-signal_shown signals own s = shown own [] (s, signal_at signals s)
+signal_shown signals own s = component_signal own [] (s, signal_at signals s)
 
 -- the net of the draft: the known signals in their order, and the live places and transitions
 pub record IsNetOf (e : Editing) (own : List ℕ) (n : NetLists) : Type 0 where

@@ -11,13 +11,13 @@ use Rattle.stg_net.specs.declared.trans.TransName.{TransName}
 use Rattle.stg_net.specs.Net.{NetLists, IsNet, signal_at, trans_at, is_kind}
 use Rattle.stg_net.specs.Graph.{FullName, is_among}
 use Rattle.stg_net.specs.Initial.{place_of, full_name, graph_of}
-use Rattle.stg_net.specs.Component.{is_one_of, shared_kind, kind_shown, shown, component}
+use Rattle.stg_net.specs.Component.{is_one_of, shared_kind, component_kind, component_signal, component}
 use Rattle.stg_net.specs.Ordered.{signal_order, new_number, ordered}
 use Rattle.stg_net.proofs.Orders.{signal_order-IsOrder, order_below, new_number-below}
 use Rattle.stg_net.proofs.Pairs.{same_place}
 use Rattle.stg_net.proofs.Signals.{one_signal}
 use Rattle.stg_net.proofs.Weights.{full_name_at-graph_of, live_below}
-use Rattle.stg_net.proofs.Shown.{length-shown, shown-names, component-IsNet}
+use Rattle.stg_net.proofs.ComponentSignals.{length-component_signals, names-component_signals, component-IsNet}
 use Rattle.stg_laws.specs.Deterministic.{HasNoDummy}
 use Rattle.stg_laws.specs.Faithful.{IsFaithful}
 use Rattle.stg_laws.specs.Laws.{DriveTheSame}
@@ -29,7 +29,7 @@ use Rattle.stg_laws.proofs.Keeping.{Keeps}
 use Rattle.stg_laws.proofs.Nets.{no_signal, signal_name-at}
 use Rattle.stg_laws.proofs.Ordering.{order_renumbers, same_signal}
 use Rattle.stg_laws.proofs.Renumbering.{renumbered_keeps, renumbered_no_dummy}
-use Rattle.stg_laws.proofs.Wiring.{is_any, net_knows, net_known, ShowsGroup}
+use Rattle.stg_laws.proofs.Wiring.{is_any, net_knows, net_known, IsGroupComponent}
 
 module _ (n : NetLists) (net : IsNet n) where
   pub net_distinct : HasDistinctNames (graph_of n)
@@ -60,16 +60,16 @@ module _ (n : NetLists) (net : IsNet n) where
   }
 
 module _ (own shared : List ℕ) (n : NetLists) where
-  -- a component shows each signal under its name
-  shown_name : (s : ℕ) → (signal_at (component own shared n).signals s).name ≡ (signal_at n.signals s).name
-  shown_name s = signal_name-at (component own shared n).signals s ∙ ap (λ names. get_or names s []) (shown-names own shared 0 n.signals) ∙ sym (signal_name-at n.signals s)
+  -- a component has each signal under its name
+  component_signal-name : (s : ℕ) → (signal_at (component own shared n).signals s).name ≡ (signal_at n.signals s).name
+  component_signal-name s = signal_name-at (component own shared n).signals s ∙ ap (λ names. get_or names s []) (names-component_signals own shared 0 n.signals) ∙ sym (signal_name-at n.signals s)
 
   -- kinds aren't read by graphs
   pub component-graph : graph_of (component own shared n) ≡ graph_of n
   component-graph = λ i. record {
     places = map (place_of n) (range_with_len 0 (length n.tokens));
-    trans = map (λ (t : TransName). Some (let x : FullName = record { signal = shown_name t.signal i; edge = t.edge; index = t.index } in x)) n.trans;
-    known = map (λ s. shown_name s i) (range_with_len 0 (length-shown own shared 0 n.signals i));
+    trans = map (λ (t : TransName). Some (let x : FullName = record { signal = component_signal-name t.signal i; edge = t.edge; index = t.index } in x)) n.trans;
+    known = map (λ s. component_signal-name s i) (range_with_len 0 (length-component_signals own shared 0 n.signals i));
     first_places = length n.tokens;
   }
 
@@ -127,22 +127,22 @@ pub order_drives_the_same : (n : NetLists) → IsNet n → DriveTheSame (stg_of 
 order_drives_the_same n net = record { driven = same_declared n net is_driven; internals = same_declared n net (is_kind Internal) }
 
 module _ (own shared : List ℕ) (n : NetLists) where
-  shown_at : (k : ℕ) → k < length n.signals → signal_at (component own shared n).signals k ≡ shown own shared (k, signal_at n.signals k)
-  shown_at k there =
-      get_or-map_in (shown own shared) (enumerate_from 0 n.signals) k (0, no_signal) no_signal (omega (arith, there, length-enumerate_from 0 n.signals))
-      ∙ ap (shown own shared) (get_or-enumerate_from 0 n.signals k (0, no_signal) there)
-      ∙ ap (λ j. shown own shared (j, signal_at n.signals k)) (zero-add k)
+  component_signal-at : (k : ℕ) → k < length n.signals → signal_at (component own shared n).signals k ≡ component_signal own shared (k, signal_at n.signals k)
+  component_signal-at k there =
+      get_or-map_in (component_signal own shared) (enumerate_from 0 n.signals) k (0, no_signal) no_signal (omega (arith, there, length-enumerate_from 0 n.signals))
+      ∙ ap (component_signal own shared) (get_or-enumerate_from 0 n.signals k (0, no_signal) there)
+      ∙ ap (λ j. component_signal own shared (j, signal_at n.signals k)) (zero-add k)
 
-  shown_kind : (test : Kind → Bool) (s : List ℕ) (k : ℕ) → Declares (component own shared n).signals test s k → Declares n.signals (λ kind. test (kind_shown own shared k kind)) s k
-  shown_kind test s k d =
-      let there : k < length n.signals = omega (arith, d.there, length-shown own shared 0 n.signals) in
-      record { there = there; passes = ap (λ (x : Signal). test x.kind) (sym (shown_at k there)) ∙ d.passes; named = sym (shown_name own shared n k) ∙ d.named }
+  declares-component_kind : (test : Kind → Bool) (s : List ℕ) (k : ℕ) → Declares (component own shared n).signals test s k → Declares n.signals (λ kind. test (component_kind own shared k kind)) s k
+  declares-component_kind test s k d =
+      let there : k < length n.signals = omega (arith, d.there, length-component_signals own shared 0 n.signals) in
+      record { there = there; passes = ap (λ (x : Signal). test x.kind) (sym (component_signal-at k there)) ∙ d.passes; named = sym (component_signal-name own shared n k) ∙ d.named }
 
-  kind_given : (test : Kind → Bool) (s : List ℕ) (k : ℕ) → Declares n.signals (λ kind. test (kind_shown own shared k kind)) s k → Declares (component own shared n).signals test s k
+  kind_given : (test : Kind → Bool) (s : List ℕ) (k : ℕ) → Declares n.signals (λ kind. test (component_kind own shared k kind)) s k → Declares (component own shared n).signals test s k
   kind_given test s k d = record {
-    there = omega (arith, d.there, length-shown own shared 0 n.signals);
-    passes = ap (λ (x : Signal). test x.kind) (shown_at k d.there) ∙ d.passes;
-    named = shown_name own shared n k ∙ d.named;
+    there = omega (arith, d.there, length-component_signals own shared 0 n.signals);
+    passes = ap (λ (x : Signal). test x.kind) (component_signal-at k d.there) ∙ d.passes;
+    named = component_signal-name own shared n k ∙ d.named;
   }
 
 -- what passes as driven is own and driven, and what passes as internal is own and not shared
@@ -169,15 +169,15 @@ internal_own true true Internal e = absurd (false≢true e)
 
 module _ (n : NetLists) (net : IsNet n) (own known shared : List ℕ) (all : (k : ℕ) → k < length n.signals → is_one_of known k ≡ true) where
   declared_seen : (test : Kind → Bool) (s : List ℕ) → IsTrue (is_among (names_where test (ordered (component own shared n)).signals) s)
-      → (k : ℕ) × Declares n.signals (λ kind. test (kind_shown own shared k kind)) s k
+      → (k : ℕ) × Declares n.signals (λ kind. test (component_kind own shared k kind)) s k
   declared_seen test s found_it =
       let a = declared test (ordered (component own shared n)).signals s found_it in
       let b = in_old_order (component own shared n) test s a.0 a.1 in
-      (b.0, shown_kind own shared n test s b.0 b.1)
+      (b.0, declares-component_kind own shared n test s b.0 b.1)
 
-  -- a component that knows every signal shows its group
-  pub seen_shows : ShowsGroup n own known shared (stg_of (ordered (component own shared n)))
-  seen_shows = record {
+  -- a component that knows every signal is one of its group
+  pub is_group_component : IsGroupComponent n own known shared (stg_of (ordered (component own shared n)))
+  is_group_component = record {
     driven = λ s drive.
         let d = declared_seen is_driven s drive in
         let o = driven_own (is_one_of own d.0) (is_one_of shared d.0) (signal_at n.signals d.0).kind d.1.passes in
@@ -190,7 +190,7 @@ module _ (n : NetLists) (net : IsNet n) (own known shared : List ℕ) (all : (k 
     known_all = λ s knowing.
         let a = net_known (ordered (component own shared n)) s knowing in
         let b = in_old_order (component own shared n) is_any s a.0 a.1 in
-        let d = shown_kind own shared n is_any s b.0 b.1 in
+        let d = declares-component_kind own shared n is_any s b.0 b.1 in
         (b.0, record { there = d.there; passes = refl; named = d.named }, all b.0 d.there);
     not_shared = λ s internal.
         let d = declared_seen (is_kind Internal) s internal in

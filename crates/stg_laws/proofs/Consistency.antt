@@ -52,4 +52,4 @@ clean_from g apart consistent run t u runs r et eu =
     (rw (edges_end g r.t_name.signal run t u r.t_name r.u_name r.t_has r.u_has refl signal) at (consistent (run ++ t ∷ u ∷ []) r.t_name.signal whole))
 
 pub consistency_determines : (g : Graph) → HasNoDummy g → HasNoToggle g → HasNoAutoConflict g → IsConsistent g → IsDeterministic g
-consistency_determines g shown steady apart consistent = record { clean = clean_from g apart consistent; no_dummy = shown }
+consistency_determines g all_known steady apart consistent = record { clean = clean_from g apart consistent; no_dummy = all_known }

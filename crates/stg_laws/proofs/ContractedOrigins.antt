@@ -6,7 +6,7 @@ use Rattle.std.proofs.lemmas.List.Elements.{All-append, All-map, filter_passes}
 use Rattle.std.proofs.lemmas.List.FromFn.{length-map-range_with_len, get_or-map-range_with_len}
 use Rattle.std.proofs.Math.ListN.{get_or-map}
 use Rattle.stg_net.specs.Graph.{Graph, Place, IsTrans, place_at, place_numbers, tokens_in, taken_by, given_by, tokens_at, takes, gives}
-use Rattle.stg_net.specs.Contraction.{places_before, places_after, pairs_round, each_other, joined, is_touched, untouched, contracted}
+use Rattle.stg_net.specs.Contraction.{places_before, places_after, pairs_round, each_other, pair_place, is_touched, remaining_place, contracted}
 use Rattle.stg_net.proofs.Members.{Contains-range}
 use Rattle.stg_laws.proofs.Origins.{Origin, NoPlace, OldPlace, PairPlace, sum_over, IsOriginAt, IsContraction, takes-past, gives-past}
 use Rattle.stg_laws.proofs.ListMembers.{map-map, Contains-map, Contains-filter, Contains-flat_map, All-flat_map}
@@ -28,20 +28,20 @@ module _ (g : Graph) (t : ℕ) where
   abbrev pub place_from : Origin → Option Place
   place_from NoPlace = None
   place_from (OldPlace p) = place_at g p
-  place_from (PairPlace p q) = joined g t (p, q)
+  place_from (PairPlace p q) = pair_place g t (p, q)
 
   -- the origin of the place of this number
   abbrev pub origin_of : ℕ → Origin
   origin_of r = get_or origins r NoPlace
 
-  untouched-origin : (p : ℕ) → untouched g t p ≡ place_from (old_origin p)
-  untouched-origin p =
+  remaining_place-origin : (p : ℕ) → remaining_place g t p ≡ place_from (old_origin p)
+  remaining_place-origin p =
       elim (is_touched g t p) as (λ b. cond b None (place_at g p) ≡ place_from (cond b NoPlace (OldPlace p))) [ true ↦ refl | false ↦ refl ]
 
   places-origins : (contracted g t).places ≡ map place_from origins
   places-origins =
-      ap₂ (λ xs ys. xs ++ ys) (map-map (untouched g t) place_from old_origin untouched-origin (place_numbers g))
-      (map-map (joined g t) place_from pair_origin (λ (p, q). refl) (pairs_round g t))
+      ap₂ (λ xs ys. xs ++ ys) (map-map (remaining_place g t) place_from old_origin remaining_place-origin (place_numbers g))
+      (map-map (pair_place g t) place_from pair_origin (λ (p, q). refl) (pairs_round g t))
       ∙ sym (map-append place_from (map old_origin (place_numbers g)) (map pair_origin (pairs_round g t)))
 
   -- each place of the contracted graph is that of its origin

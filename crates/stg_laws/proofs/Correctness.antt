@@ -5,7 +5,7 @@ use Rattle.stg_net.specs.Graph.{Graph, FullName, is_among, tokens_at}
 use Rattle.stg_net.specs.Run.{Marking, IsEnabled, IsRun, fired, reached}
 use Rattle.stg_laws.specs.Cuts.{Label, names_of, cut}
 use Rattle.stg_laws.specs.Deterministic.{IsDeterministic}
-use Rattle.stg_laws.specs.Stgs.{Stg, IsStg, stg_at, knows, drives}
+use Rattle.stg_laws.specs.Stgs.{Stg, IsStg, stg_at, Knows, Drives}
 use Rattle.stg_laws.specs.Joint.{JointMarking, HasLabel, Moves, Reaches, AreRelated, IsJointStep, CanStep, StepsTo, MovesTo}
 use Rattle.stg_laws.specs.Correct.{AreWired, IsCorrect}
 use Rattle.stg_laws.specs.Faithful.{CanFire, IsFaithful}
@@ -22,11 +22,11 @@ record IsGood (spec : Graph) (x : Stg) : Type 0 where
 -- a component's marking after one more transition of the specification
 record IsNext (spec : Graph) (x : Stg) (label : Label) (run : List ℕ) (old new : Marking) : Type 0 where
   reaches : Reaches x.graph (cut spec x.graph.known run) new
-  moves : knows x label.signal → Moves x.graph label old new
-  stays : ¬ knows x label.signal → (p : ℕ) → new p ≡ old p
+  moves : Knows x label.signal → Moves x.graph label old new
+  stays : ¬ Knows x label.signal → (p : ℕ) → new p ≡ old p
 
 next_known : (spec : Graph) (x : Stg) (label : Label) (run : List ℕ) (t : ℕ) (old : Marking) → IsGood spec x → IsRun spec run → IsEnabled spec (reached spec run) t → HasLabel spec t label
-    → Reaches x.graph (cut spec x.graph.known run) old → knows x label.signal → (new : Marking) × IsNext spec x label (run ++ t ∷ []) old new
+    → Reaches x.graph (cut spec x.graph.known run) old → Knows x label.signal → (new : Marking) × IsNext spec x label (run ++ t ∷ []) old new
 next_known spec x label run t old good runs e l r known =
     let g = x.graph in
     let f = good.faithful.follows (run ++ t ∷ []) (enabled_last spec run t runs e) in
@@ -37,8 +37,8 @@ next_known spec x label run t old good runs e l r known =
     let here = last_enabled g (tokens_at g) r.run s.last whole in (
       fired g old s.last,
       record {
-        reaches = record { run = r.run ++ s.last ∷ []; runs = whole; named = rw s.is_last at f.named; marks = λ p. rw reached-append (omega (arith, r.marks p)) };
-        moves = λ _. record { trans = s.last; labelled = record { name = l.name; has = s.has; is = l.is }; enabled = enabled_same g (reached g r.run) old s.last r.marks here; marks = λ p. refl };
+        reaches = record { run = r.run ++ s.last ∷ []; runs = whole; named = rw s.is_last at f.named; marking = λ p. rw reached-append (omega (arith, r.marking p)) };
+        moves = λ _. record { trans = s.last; labelled = record { name = l.name; has = s.has; is = l.is }; enabled = enabled_same g (reached g r.run) old s.last r.marking here; marking = λ p. refl };
         stays = λ no. absurd (no known);
       },
     )
@@ -48,7 +48,7 @@ next_unknown : (spec : Graph) (x : Stg) (label : Label) (run : List ℕ) (t : �
 next_unknown spec x label run t old l r hidden =
     let unseen : is_among x.graph.known l.name.signal ≡ false = ap (λ (m : Label). is_among x.graph.known m.signal) l.is ∙ hidden in
     record {
-      reaches = record { run = r.run; runs = r.runs; named = r.named ∙ sym (cut-unseen spec x.graph.known run t l.name l.has unseen); marks = r.marks };
+      reaches = record { run = r.run; runs = r.runs; named = r.named ∙ sym (cut-unseen spec x.graph.known run t l.name l.has unseen); marking = r.marking };
       moves = λ known. absurd (false≢true (sym hidden ∙ known));
       stays = λ _ p. refl;
     }
@@ -79,13 +79,13 @@ record AreNext (spec : Graph) (components : List Stg) (label : Label) (run : Lis
   each : (i : ℕ) → i < length components → IsNext spec (stg_at components i) label run (old i) (new i)
 
 enabled_there : (spec : Graph) (components : List Stg) (m : Marking) (joint : JointMarking) (t : ℕ) (a : AreRelated spec components m joint) → IsEnabled spec m t → IsEnabled spec (reached spec a.run) t
-enabled_there spec components m joint t a e = enabled_same spec m (reached spec a.run) t (λ p. sym (a.marks p)) e
+enabled_there spec components m joint t a e = enabled_same spec m (reached spec a.run) t (λ p. sym (a.marking p)) e
 
-marks_after : (spec : Graph) (components : List Stg) (m : Marking) (joint : JointMarking) (t : ℕ) (a : AreRelated spec components m joint) (p : ℕ) → fired spec m t p ≡ reached spec (a.run ++ t ∷ []) p
-marks_after spec components m joint t a p = rw reached-append (omega (arith, a.marks p))
+marking_after : (spec : Graph) (components : List Stg) (m : Marking) (joint : JointMarking) (t : ℕ) (a : AreRelated spec components m joint) (p : ℕ) → fired spec m t p ≡ reached spec (a.run ++ t ∷ []) p
+marking_after spec components m joint t a p = rw reached-append (omega (arith, a.marking p))
 
 reaches_same : (g : Graph) (names : List FullName) (m n : Marking) → ((p : ℕ) → n p ≡ m p) → Reaches g names m → Reaches g names n
-reaches_same g names m n same r = record { run = r.run; runs = r.runs; named = r.named; marks = λ p. same p ∙ r.marks p }
+reaches_same g names m n same r = record { run = r.run; runs = r.runs; named = r.named; marking = λ p. same p ∙ r.marking p }
 
 -- a deterministic component enables one transition of a label at most
 same_trans : (spec : Graph) (x : Stg) (label : Label) (names : List FullName) (m v w : Marking) → IsGood spec x → Reaches x.graph names m → (a : Moves x.graph label m v) → (b : Moves x.graph label m w) → a.trans ≡ b.trans
@@ -102,8 +102,8 @@ same_trans spec x label names m v w good r a b = elim (cases_eq a.trans b.trans)
         u_has = b.labelled.has;
         same = a.labelled.is ∙ sym b.labelled.is;
       })
-      (enabled_same x.graph m (reached x.graph r.run) a.trans (λ p. sym (r.marks p)) a.enabled)
-      (enabled_same x.graph m (reached x.graph r.run) b.trans (λ p. sym (r.marks p)) b.enabled))
+      (enabled_same x.graph m (reached x.graph r.run) a.trans (λ p. sym (r.marking p)) a.enabled)
+      (enabled_same x.graph m (reached x.graph r.run) b.trans (λ p. sym (r.marking p)) b.enabled))
 ]
 
 module _ (spec : Graph) (components : List Stg) (good : (i : ℕ) → i < length components → IsGood spec (stg_at components i)) where
@@ -115,7 +115,7 @@ module _ (spec : Graph) (components : List Stg) (good : (i : ℕ) → i < length
 
   -- what the specification fires, the components that know it follow by a joint step
   steps_to : (label : Label) (m n : Marking) (joint : JointMarking) → AreRelated spec components m joint → Moves spec label m n
-      → (i : ℕ) → i < length components → knows (stg_at components i) label.signal → StepsTo spec components label joint n
+      → (i : ℕ) → i < length components → Knows (stg_at components i) label.signal → StepsTo spec components label joint n
   steps_to label m n joint a mv i h known =
       let e = enabled_there spec components m joint mv.trans a mv.enabled in
       let x = all_next label m joint mv.trans a e mv.labelled in record {
@@ -124,33 +124,33 @@ module _ (spec : Graph) (components : List Stg) (good : (i : ℕ) → i < length
         related = record {
           run = a.run ++ mv.trans ∷ [];
           runs = enabled_last spec a.run mv.trans a.runs e;
-          marks = λ p. mv.marks p ∙ marks_after spec components m joint mv.trans a p;
+          marking = λ p. mv.marking p ∙ marking_after spec components m joint mv.trans a p;
           each = λ j l. (x.each j l).reaches;
         };
       }
 
   -- where no component knows the signal, all stay
   stays_related : (label : Label) (m n : Marking) (joint : JointMarking) → AreRelated spec components m joint → Moves spec label m n
-      → ((i : ℕ) → i < length components → ¬ knows (stg_at components i) label.signal) → AreRelated spec components n joint
+      → ((i : ℕ) → i < length components → ¬ Knows (stg_at components i) label.signal) → AreRelated spec components n joint
   stays_related label m n joint a mv none =
       let e = enabled_there spec components m joint mv.trans a mv.enabled in record {
         run = a.run ++ mv.trans ∷ [];
         runs = enabled_last spec a.run mv.trans a.runs e;
-        marks = λ p. mv.marks p ∙ marks_after spec components m joint mv.trans a p;
+        marking = λ p. mv.marking p ∙ marking_after spec components m joint mv.trans a p;
         each = λ j l.
             let hidden = false_from_ne_true (is_among (stg_at components j).graph.known label.signal) (none j l) in
             (next_unknown spec (stg_at components j) label a.run mv.trans (joint j) mv.labelled (a.each j l) hidden).reaches;
       }
 
   -- the specification can do what a component does with its own output
-  can_fire : (label : Label) (m : Marking) (joint : JointMarking) (n : Marking) (i : ℕ) (a : AreRelated spec components m joint) → i < length components → drives (stg_at components i) label.signal
+  can_fire : (label : Label) (m : Marking) (joint : JointMarking) (n : Marking) (i : ℕ) (a : AreRelated spec components m joint) → i < length components → Drives (stg_at components i) label.signal
       → (mv : Moves (stg_at components i).graph label (joint i) n) → CanFire spec a.run mv.labelled.name
   can_fire label m joint n i a h drive mv =
       let x = stg_at components i in
       let r = a.each i h in
-      let own : drives x mv.labelled.name.signal = ap (λ (l : Label). is_among x.driven l.signal) mv.labelled.is ∙ drive in
+      let own : Drives x mv.labelled.name.signal = ap (λ (l : Label). is_among x.driven l.signal) mv.labelled.is ∙ drive in
       (good i h).faithful.own_agree a.run r.run mv.trans mv.labelled.name a.runs r.runs r.named mv.labelled.has own
-      (enabled_same x.graph (joint i) (reached x.graph r.run) mv.trans (λ p. sym (r.marks p)) mv.enabled)
+      (enabled_same x.graph (joint i) (reached x.graph r.run) mv.trans (λ p. sym (r.marking p)) mv.enabled)
 
   -- after a joint step each component stands where it stands after the specification's transition
   same_after : (label : Label) (m : Marking) (joint new after : JointMarking) (run : List ℕ) → AreRelated spec components m joint → IsJointStep components label joint new
@@ -161,32 +161,32 @@ module _ (spec : Graph) (components : List Stg) (good : (i : ℕ) → i < length
         | inl k ↦
             let b = step.moves j lj k in
             let d = x.moves k in
-            b.marks p ∙ ap (λ t. fired c.graph (joint j) t p) (same_trans spec c label _ (joint j) (new j) (after j) (good j lj) (a.each j lj) b d) ∙ sym (d.marks p)
+            b.marking p ∙ ap (λ t. fired c.graph (joint j) t p) (same_trans spec c label _ (joint j) (new j) (after j) (good j lj) (a.each j lj) b d) ∙ sym (d.marking p)
         | inr k ↦
-            let no : ¬ knows c label.signal = λ known. false≢true (sym k ∙ known) in
+            let no : ¬ Knows c label.signal = λ known. false≢true (sym k ∙ known) in
             step.stays j lj no p ∙ sym (x.stays no p)
       ]
 
   -- a joint step of an output's edge is one of the specification
   moves_to : (label : Label) (m : Marking) (joint new : JointMarking) → AreRelated spec components m joint → IsJointStep components label joint new
-      → (i : ℕ) → i < length components → drives (stg_at components i) label.signal → MovesTo spec components label m new
+      → (i : ℕ) → i < length components → Drives (stg_at components i) label.signal → MovesTo spec components label m new
   moves_to label m joint new a step i h drive =
       let mv = step.moves i h ((good i h).is.driven_known label.signal drive) in
       let c = can_fire label m joint (new i) i a h drive mv in
       let l : HasLabel spec c.trans label = record { name = mv.labelled.name; has = c.has; is = mv.labelled.is } in
       let x = all_next label m joint c.trans a c.enabled l in record {
         new = fired spec m c.trans;
-        moves = record { trans = c.trans; labelled = l; enabled = enabled_same spec (reached spec a.run) m c.trans a.marks c.enabled; marks = λ p. refl };
+        moves = record { trans = c.trans; labelled = l; enabled = enabled_same spec (reached spec a.run) m c.trans a.marking c.enabled; marking = λ p. refl };
         related = record {
           run = a.run ++ c.trans ∷ [];
           runs = enabled_last spec a.run c.trans a.runs c.enabled;
-          marks = marks_after spec components m joint c.trans a;
+          marking = marking_after spec components m joint c.trans a;
           each = λ j lj.
               reaches_same (stg_at components j).graph _ (x.new j) (new j) (same_after label m joint new x.new (a.run ++ c.trans ∷ []) a step j lj (x.each j lj)) (x.each j lj).reaches;
         };
       }
 
-  can_step : (label : Label) (m n : Marking) (joint : JointMarking) (i : ℕ) → AreRelated spec components m joint → i < length components → drives (stg_at components i) label.signal
+  can_step : (label : Label) (m n : Marking) (joint : JointMarking) (i : ℕ) → AreRelated spec components m joint → i < length components → Drives (stg_at components i) label.signal
       → Moves (stg_at components i).graph label (joint i) n → CanStep components label joint
   can_step label m n joint i a h drive mv =
       let c = can_fire label m joint n i a h drive mv in
@@ -200,8 +200,8 @@ module _ (spec : Graph) (components : List Stg) (good : (i : ℕ) → i < length
   starts_related = record {
     run = [];
     runs = tt;
-    marks = λ p. refl;
-    each = λ i h. record { run = []; runs = tt; named = refl; marks = λ p. refl };
+    marking = λ p. refl;
+    each = λ i h. record { run = []; runs = tt; named = refl; marking = λ p. refl };
   }
 
 pub faithful_parts_are_correct : (spec : Stg) (components : List Stg) → IsDeterministic spec.graph → AreWired spec components
@@ -224,5 +224,5 @@ faithful_parts_are_correct spec components deterministic wired are faithful =
           moves_to spec.graph components good label m joint new a step d.driver d.there d.drives_it;
       outputs_not_refused = λ m joint label i t a h drive has enabled.
           let g = (stg_at components i).graph in
-          can_step spec.graph components good label m (fired g (joint i) t) joint i a h drive (record { trans = t; labelled = has; enabled = enabled; marks = λ p. refl });
+          can_step spec.graph components good label m (fired g (joint i) t) joint i a h drive (record { trans = t; labelled = has; enabled = enabled; marking = λ p. refl });
     }

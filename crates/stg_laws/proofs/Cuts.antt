@@ -3,7 +3,7 @@ use Rattle.std.proofs.Common.{◌≡◌, ℕ, List, [], ◌∷◌, ◌++◌, app
 use Rattle.std.proofs.lemmas.Bool.{cases_Bool}
 use Rattle.std.proofs.lemmas.List.Elements.{filter_agree, filter-append, filter_map-append}
 use Rattle.stg_net.specs.Graph.{Graph, FullName, IsTrans, IsKnown, full_name_at, is_among, has_signal_of}
-use Rattle.stg_laws.specs.Cuts.{names_of, shown, cut}
+use Rattle.stg_laws.specs.Cuts.{names_of, names_among, cut}
 use Rattle.stg_laws.specs.Deterministic.{HasNoDummy}
 use Rattle.stg_laws.proofs.Names.{named, AreLive}
 
@@ -21,7 +21,7 @@ signal_of-agree x y same (Some name) = same name.signal
 
 pub cut-append : (g : Graph) (signals : List (List ℕ)) (v w : List ℕ) → cut g signals (v ++ w) ≡ cut g signals v ++ cut g signals w
 cut-append g signals v w =
-    ap (shown signals) (filter_map-append (full_name_at g) v w) ∙ filter-append (λ (name : FullName). is_among signals name.signal) (names_of g v) (names_of g w)
+    ap (names_among signals) (filter_map-append (full_name_at g) v w) ∙ filter-append (λ (name : FullName). is_among signals name.signal) (names_of g v) (names_of g w)
 
 -- one more transition of the signals
 pub cut-seen : (g : Graph) (signals : List (List ℕ)) (run : List ℕ) (t : ℕ) (name : FullName) → full_name_at g t ≡ Some name → is_among signals name.signal ≡ true

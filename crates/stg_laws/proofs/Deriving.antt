@@ -7,7 +7,7 @@ use Rattle.stg_laws.specs.Closed.{IsClosed}
 use Rattle.stg_laws.specs.Cuts.{Label, label_of, names_of, cut, IsNamedRun, IsCutOfRun, IsTraceOfRun, IsNameList, IsTrace}
 use Rattle.stg_laws.specs.Deterministic.{IsClean, HasNoDummy}
 use Rattle.stg_laws.specs.Faithful.{CanFire, IsFaithful}
-use Rattle.stg_laws.specs.Stgs.{Stg, HasDistinctNames, drives}
+use Rattle.stg_laws.specs.Stgs.{Stg, HasDistinctNames, Drives}
 use Rattle.stg_laws.proofs.Cuts.{AllKnown, all_known, names-cut, cut-agree}
 use Rattle.stg_laws.proofs.Inputs.{cut_tells_inputs}
 use Rattle.stg_laws.proofs.Keeping.{Keeps}
@@ -59,12 +59,12 @@ front_hidden g signals m t names name x k e f = record {
   enabled = f.enabled;
 }
 
-front_shown : (g : Graph) (signals : List (List ℕ)) (m : Marking) (t : ℕ) (rest names : List FullName) (name : FullName) (x : Named g t) → is_among signals x.name.signal ≡ true
+front-names_among : (g : Graph) (signals : List (List ℕ)) (m : Marking) (t : ℕ) (rest names : List FullName) (name : FullName) (x : Named g t) → is_among signals x.name.signal ≡ true
     → IsEnabled g m t → x.name ∷ rest ≡ names ++ name ∷ [] → ((others : List FullName) → rest ≡ others ++ name ∷ [] → Front g signals (fired g m t) others name) → Front g signals m names name
-front_shown g signals m t rest [] name x k e same later =
+front-names_among g signals m t rest [] name x k e same later =
     let here : x.name ≡ name = cc in
     record { front = []; runs = tt; is_cut = refl; next = t; has = x.has ∙ ap Some here; enabled = e }
-front_shown g signals m t rest (n ∷ names) name x k e same later =
+front-names_among g signals m t rest (n ∷ names) name x k e same later =
     let here : x.name ≡ n = cc in
     let there : rest ≡ names ++ name ∷ [] = cc in
     let f = later names there in record {
@@ -85,7 +85,7 @@ front_of g signals m [] names name run e = absurd (no_end names name e)
 front_of g signals m (t ∷ w) names name run e =
     let x = named g t run.0.live in
     elim (cases_Bool (is_among signals x.name.signal)) [
-      | inl k ↦ front_shown g signals m t (cut g signals w) names name x k run.0 (rw k at (rw x.has at e)) (λ others same. front_of g signals (fired g m t) w others name run.1 same)
+      | inl k ↦ front-names_among g signals m t (cut g signals w) names name x k run.0 (rw k at (rw x.has at e)) (λ others same. front_of g signals (fired g m t) w others name run.1 same)
       | inr k ↦ front_hidden g signals m t names name x k run.0 (front_of g signals (fired g m t) w names name run.1 (rw k at (rw x.has at e)))
     ]
 
@@ -138,7 +138,7 @@ module _ (spec : Graph) (signals : List (List ℕ)) (x : Stg) (d : IsDerivation 
   )
 
   own_after : (run own : List ℕ) (t : ℕ) (name : FullName) → IsRun spec run → IsRun x.graph own → names_of x.graph own ≡ cut spec x.graph.known run
-      → full_name_at x.graph t ≡ Some name → drives x name.signal → IsEnabled x.graph (reached x.graph own) t → CanFire spec run name
+      → full_name_at x.graph t ≡ Some name → Drives x name.signal → IsEnabled x.graph (reached x.graph own) t → CanFire spec run name
   own_after run own t name runs own_runs same has own_name e =
       let c = comes_from_cut (own ++ t ∷ []) (enabled_last x.graph own t own_runs e) in
       let ends : cut spec signals c.run ≡ cut spec signals run ++ name ∷ [] =

@@ -61,15 +61,15 @@ celem_back (suc (suc (suc (suc zero)))) x e = let same : full (codes "b") Fall 0
 celem_back (suc (suc (suc (suc (suc zero))))) x e = let same : full (codes "c") Fall 0 ≡ x = cc in ap (λ (y : FullName). celem_number (label_of y)) (sym same)
 celem_back (suc (suc (suc (suc (suc (suc t)))))) x e = cc
 
-celem_shown : HasNoDummy (graph_of celem)
-celem_shown zero d = false≢true (sym d.hidden)
-celem_shown (suc zero) d = false≢true (sym d.hidden)
-celem_shown (suc (suc zero)) d = false≢true (sym d.hidden)
-celem_shown (suc (suc (suc zero))) d = false≢true (sym d.hidden)
-celem_shown (suc (suc (suc (suc zero)))) d = false≢true (sym d.hidden)
-celem_shown (suc (suc (suc (suc (suc zero))))) d = false≢true (sym d.hidden)
-celem_shown (suc (suc (suc (suc (suc (suc t)))))) d = false≢true d.live
+celem_no_dummy : HasNoDummy (graph_of celem)
+celem_no_dummy zero d = false≢true (sym d.hidden)
+celem_no_dummy (suc zero) d = false≢true (sym d.hidden)
+celem_no_dummy (suc (suc zero)) d = false≢true (sym d.hidden)
+celem_no_dummy (suc (suc (suc zero))) d = false≢true (sym d.hidden)
+celem_no_dummy (suc (suc (suc (suc zero)))) d = false≢true (sym d.hidden)
+celem_no_dummy (suc (suc (suc (suc (suc zero))))) d = false≢true (sym d.hidden)
+celem_no_dummy (suc (suc (suc (suc (suc (suc t)))))) d = false≢true d.live
 
 -- the C-element is deterministic
 pub celem_is_deterministic : IsDeterministic (graph_of celem)
-celem_is_deterministic = record { clean = clean_by_labels (graph_of celem) celem_number celem_back; no_dummy = celem_shown }
+celem_is_deterministic = record { clean = clean_by_labels (graph_of celem) celem_number celem_back; no_dummy = celem_no_dummy }

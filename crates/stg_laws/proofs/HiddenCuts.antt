@@ -3,7 +3,7 @@ use Rattle.std.proofs.Common.{◌≡◌, ◌≢◌, ℕ, List, [], ◌∷◌, ma
 use Rattle.std.specs.List.{cons_option}
 use Rattle.std.proofs.lemmas.Bool.{cases_eq, ne_eqb}
 use Rattle.stg_net.specs.Graph.{Graph, FullName, full_name_at, is_among, has_signal_of}
-use Rattle.stg_laws.specs.Cuts.{names_of, cut, shown}
+use Rattle.stg_laws.specs.Cuts.{names_of, cut, names_among}
 use Rattle.stg_laws.specs.LeaveOut.{leave_out}
 
 -- h has the names of g, but for t
@@ -17,13 +17,13 @@ put_for t u x = cond (eqb x t) u x
 module _ (signals : List (List ℕ)) where
   -- a name that isn't seen is left out of a cut
   cut-hidden : (o : Option FullName) (names : List FullName) → has_signal_of signals o ≡ false
-      → shown signals (cons_option o names) ≡ shown signals names
+      → names_among signals (cons_option o names) ≡ names_among signals names
   cut-hidden None names e = refl
   cut-hidden (Some name) names e = rw e
 
   -- one more name on both sides
-  pub cut-next : (o : Option FullName) (xs ys : List FullName) → shown signals xs ≡ shown signals ys
-      → shown signals (cons_option o xs) ≡ shown signals (cons_option o ys)
+  pub cut-next : (o : Option FullName) (xs ys : List FullName) → names_among signals xs ≡ names_among signals ys
+      → names_among signals (cons_option o xs) ≡ names_among signals (cons_option o ys)
   cut-next None xs ys e = e
   cut-next (Some name) xs ys e = ap (λ zs. cond (is_among signals name.signal) (name ∷ zs) zs) e
 

@@ -15,7 +15,7 @@ use Rattle.stg_net.specs.Net.{NetLists, IsNet, signal_at, trans_at}
 use Rattle.stg_net.specs.Graph.{FullName, full_name_at, has_signal_of, is_among, takes, gives}
 use Rattle.stg_net.specs.Initial.{graph_of}
 use Rattle.stg_net.specs.Ordered.{numbers_where, only_where}
-use Rattle.stg_net.proofs.Weights.{Joint, takes-joint, gives-joint, joint_place, full_name_at-graph_of, live_below}
+use Rattle.stg_net.proofs.Weights.{ConnectingArc, takes-connecting, gives-connecting, connecting_place, full_name_at-graph_of, live_below}
 use Rattle.stg_net.proofs.Signals.{one_signal}
 use Rattle.stg_laws.specs.Closed.{IsClosed}
 use Rattle.stg_laws.specs.Groups.{signal_of, takes_from, is_at, own_take_from, is_known_to, known_to, names_at}
@@ -112,26 +112,26 @@ trans_among : (n : NetLists) (signals : List (List ℕ)) (t : ℕ) → t < lengt
     → is_among signals (signal_at n.signals (trans_at n.trans t).signal).name ≡ true
 trans_among n signals t there e = ap (has_signal_of signals) (sym (full_name_at-graph_of n t there)) ∙ e
 
-joint_takes : (n : NetLists) (t p : ℕ) → Joint n.arcs false t p
+joint_takes : (n : NetLists) (t p : ℕ) → ConnectingArc n.arcs false t p
     → takes_from n (trans_at n.trans t).signal p ≡ true
 joint_takes n t p j =
     let P : ℕ → Type 0 = λ q. takes_from n (trans_at n.trans t).signal q ≡ true in
     let Q : ℕ → Type 0 = λ u. takes_from n (trans_at n.trans u).signal j.arc.place ≡ true in
-    subst P j.joins_both.place_is (subst Q j.joins_both.trans_is (takes_by n j.arc j.at j.inside (j.arc_is j.arc) j.joins_both.goes_is))
+    subst P j.connects_both.place_is (subst Q j.connects_both.trans_is (takes_by n j.arc j.at j.inside (j.arc_is j.arc) j.connects_both.goes_is))
 
-joint_at : (n : NetLists) (into : Bool) (u p : ℕ) → Joint n.arcs into u p
+joint_at : (n : NetLists) (into : Bool) (u p : ℕ) → ConnectingArc n.arcs into u p
     → is_at n (trans_at n.trans u).signal p ≡ true
 joint_at n into u p j =
     let P : ℕ → Type 0 = λ q. is_at n (trans_at n.trans u).signal q ≡ true in
     let Q : ℕ → Type 0 = λ t. is_at n (trans_at n.trans t).signal j.arc.place ≡ true in
-    subst P j.joins_both.place_is (subst Q j.joins_both.trans_is (at_by n j.arc j.at j.inside (j.arc_is j.arc)))
+    subst P j.connects_both.place_is (subst Q j.connects_both.trans_is (at_by n j.arc j.at j.inside (j.arc_is j.arc)))
 
 arc_at : (n : NetLists) (u p : ℕ) → IsNet n
     → (0 < takes (graph_of n) u p) ⊎ (0 < gives (graph_of n) u p)
     → is_at n (trans_at n.trans u).signal p ≡ true
 arc_at n u p net h = elim h [
-  | inl l ↦ joint_at n false u p (takes-joint n u p net l)
-  | inr l ↦ joint_at n true u p (gives-joint n u p net l)
+  | inl l ↦ joint_at n false u p (takes-connecting n u p net l)
+  | inr l ↦ joint_at n true u p (gives-connecting n u p net l)
 ]
 
 -- what a list of signals has to know closes it
@@ -144,10 +144,10 @@ known_closes n own net there t u p own_t takes_t live arc =
     let named_there : named.signal < length n.signals = subst (λ s. s < length n.signals) c.2 (there c.0 named.signal c.1) in
     let same : named.signal ≡ (trans_at n.trans t).signal =
     one_signal n named.signal (trans_at n.trans t).signal net named_there (net.trans_signals t (trans_at [] t) t_there) named.name_is in
-    let j = takes-joint n t p net takes_t in
+    let j = takes-connecting n t p net takes_t in
     let P : ℕ → Type 0 = λ s. Contains own s in
     let takes = own_takes n own (trans_at n.trans t).signal p (subst P same named.listed) (joint_takes n t p j) in
     let u_there = live_below n u live in
-    let known = known_at n own (trans_at n.trans u).signal p (joint_place n false t p net j) takes (arc_at n u p net arc) in
+    let known = known_at n own (trans_at n.trans u).signal p (connecting_place n false t p net j) takes (arc_at n u p net arc) in
     let listed = passing_contained (is_known_to n own) (length n.signals) (trans_at n.trans u).signal (net.trans_signals u (trans_at [] u) u_there) known in
     ap (has_signal_of (names_at n (known_to n own))) (full_name_at-graph_of n u u_there) ∙ named_among n (known_to n own) (trans_at n.trans u).signal listed

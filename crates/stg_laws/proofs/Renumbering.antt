@@ -4,7 +4,7 @@ use Rattle.std.specs.List.{cons_option}
 use Rattle.std.proofs.lemmas.Bool.{cases_Bool, false≢true}
 use Rattle.stg_net.specs.Graph.{Graph, Place, IsTrans, full_name_at, place_at, taken_by, tokens_at, takes}
 use Rattle.stg_net.specs.Run.{Marking, IsEnabled, IsRunFrom, fired, reached, reached_from}
-use Rattle.stg_laws.specs.Cuts.{cut, names_of, shown}
+use Rattle.stg_laws.specs.Cuts.{cut, names_of, names_among}
 use Rattle.stg_laws.specs.Deterministic.{AreRivals, HasNoDummy}
 use Rattle.stg_laws.specs.Renumbered.{IsRenumbered}
 use Rattle.stg_laws.proofs.Cuts.{cut-agree, signal_of-agree}
@@ -73,7 +73,7 @@ names_there g h k [] a = refl
 names_there g h k (u ∷ w) a = rw (k.names u a.0) (ap (λ names. cons_option (full_name_at h u) names) (names_there g h k w a.1))
 
 cut_there : (g h : Graph) (k : IsRenumbered g h) (signals : List (List ℕ)) (w : List ℕ) → AreLive h w → cut g signals (map k.trans w) ≡ cut h signals w
-cut_there g h k signals w a = ap (shown signals) (names_there g h k w a)
+cut_there g h k signals w a = ap (names_among signals) (names_there g h k w a)
 
 rivals_there : (g h : Graph) (k : IsRenumbered g h) (u v : ℕ) → AreRivals h u v → AreRivals g (k.trans u) (k.trans v)
 rivals_there g h k u v r =

@@ -5,7 +5,7 @@ use Rattle.stg_net.specs.declared.trans.Edge.TheVariants.{Rise}
 use Rattle.stg_net.specs.Graph.{Graph, FullName, Place, full_name_at, takes, tokens_at}
 use Rattle.stg_net.specs.Run.{Marking, IsEnabled, fired}
 use Rattle.stg_laws.specs.Cuts.{Label}
-use Rattle.stg_laws.specs.Stgs.{Stg, stg_at, knows, drives}
+use Rattle.stg_laws.specs.Stgs.{Stg, stg_at, Knows, Drives}
 use Rattle.stg_laws.specs.Joint.{Moves, AreRelated, IsJointStep}
 use Rattle.stg_laws.specs.Correct.{IsCorrect}
 
@@ -50,7 +50,7 @@ only_x g = record { graph = g; driven = x ∷ []; internals = [] }
 
 -- at first, specification and components are related
 starts : (s : Graph) (components : List Stg) → AreRelated s components (tokens_at s) (λ i. tokens_at (stg_at components i).graph)
-starts s components = record { run = []; runs = tt; marks = λ p. refl; each = λ i h. record { run = []; runs = tt; named = refl; marks = λ p. refl } }
+starts s components = record { run = []; runs = tt; marking = λ p. refl; each = λ i h. record { run = []; runs = tt; named = refl; marking = λ p. refl } }
 
 apart : (i j : ℕ) → i < j → i ≡ j → ⊥
 apart i j less e = omega arith
@@ -73,7 +73,7 @@ z = codes "z"
 abbrev knows_more : Stg
 knows_more = record spec { graph = graph_with places both (a ∷ x ∷ z ∷ []) }
 
-undriven : (i : ℕ) → drives (stg_at (knows_more ∷ []) i) z → ⊥
+undriven : (i : ℕ) → Drives (stg_at (knows_more ∷ []) i) z → ⊥
 undriven zero d = false≢true d
 undriven (suc i) d = false≢true d
 
@@ -87,7 +87,7 @@ shares_inside c = apart 0 1 (omega arith) (c.wired.internals 0 1 x (omega arith)
 
 -- a+ of the specification at its initial marking
 a_first : Moves spec.graph (rise a) (tokens_at spec.graph) (fired spec.graph (tokens_at spec.graph) 0)
-a_first = record { trans = 0; labelled = record { name = record { signal = a; edge = Rise; index = 0 }; has = refl; is = refl }; enabled = record { live = refl; covered = covered }; marks = λ p. refl }
+a_first = record { trans = 0; labelled = record { name = record { signal = a; edge = Rise; index = 0 }; has = refl; is = refl }; enabled = record { live = refl; covered = covered }; marking = λ p. refl }
   where
     covered : (p : ℕ) → takes spec.graph 0 p ≤ tokens_at spec.graph p
     covered zero = omega arith
@@ -117,7 +117,7 @@ x_enabled tokens weight enough = record { live = refl; covered = covered }
 
 x_first : (tokens weight : ℕ) → weight ≤ tokens → Moves (one_place tokens weight) (rise x) (tokens_at (one_place tokens weight)) (fired (one_place tokens weight) (tokens_at (one_place tokens weight)) 0)
 x_first tokens weight enough =
-    record { trans = 0; labelled = record { name = record { signal = x; edge = Rise; index = 0 }; has = refl; is = refl }; enabled = x_enabled tokens weight enough; marks = λ p. refl }
+    record { trans = 0; labelled = record { name = record { signal = x; edge = Rise; index = 0 }; has = refl; is = refl }; enabled = x_enabled tokens weight enough; marking = λ p. refl }
 
 -- without the token x+ can't be fired
 stuck : (t : ℕ) (m : Marking) (name : FullName) → full_name_at (one_place 0 1) t ≡ Some name → m 0 ≡ 0 → IsEnabled (one_place 0 1) m t → ⊥
@@ -143,12 +143,12 @@ loses_an_arc c =
     let allowed = c.joint_outputs_allowed (tokens_at s) (λ i. tokens_at (stg_at components i).graph) (λ i. fired (stg_at components i).graph (tokens_at (stg_at components i).graph) 0) (rise x) (starts s components) step refl in
     stuck allowed.moves.trans (tokens_at s) allowed.moves.labelled.name allowed.moves.labelled.has refl allowed.moves.enabled
   where
-    moves : (i : ℕ) → i < 1 → knows (stg_at (only_x (one_place 0 0) ∷ []) i) x
+    moves : (i : ℕ) → i < 1 → Knows (stg_at (only_x (one_place 0 0) ∷ []) i) x
         → Moves (stg_at (only_x (one_place 0 0) ∷ []) i).graph (rise x) (tokens_at (stg_at (only_x (one_place 0 0) ∷ []) i).graph) (fired (stg_at (only_x (one_place 0 0) ∷ []) i).graph (tokens_at (stg_at (only_x (one_place 0 0) ∷ []) i).graph) 0)
     moves zero below k = x_first 0 0 (omega arith)
     moves (suc i) below k = absurd (omega (arith, below))
 
-    stays : (i : ℕ) → i < 1 → ¬ knows (stg_at (only_x (one_place 0 0) ∷ []) i) x → (p : ℕ)
+    stays : (i : ℕ) → i < 1 → ¬ Knows (stg_at (only_x (one_place 0 0) ∷ []) i) x → (p : ℕ)
         → fired (stg_at (only_x (one_place 0 0) ∷ []) i).graph (tokens_at (stg_at (only_x (one_place 0 0) ∷ []) i).graph) 0 p ≡ tokens_at (stg_at (only_x (one_place 0 0) ∷ []) i).graph p
     stays zero below unknown p = absurd (unknown refl)
     stays (suc i) below unknown p = absurd (omega (arith, below))

@@ -18,12 +18,12 @@ abbrev pub names_of : Graph → List ℕ → List FullName
 names_of g run = filter_map (full_name_at g) run
 
 -- those whose signal is one of the signals
-abbrev pub shown : List (List ℕ) → List FullName → List FullName
-shown signals names = filter (λ (name : FullName). is_among signals name.signal) names
+abbrev pub names_among : List (List ℕ) → List FullName → List FullName
+names_among signals names = filter (λ (name : FullName). is_among signals name.signal) names
 
 -- the cut of a run to the signals, its projection
 abbrev pub cut : Graph → List (List ℕ) → List ℕ → List FullName
-cut g signals run = shown signals (names_of g run)
+cut g signals run = names_among signals (names_of g run)
 
 -- the trace of a run on the signals: its cut without the indices
 abbrev pub trace : Graph → List (List ℕ) → List ℕ → List Label

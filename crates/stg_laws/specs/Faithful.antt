@@ -6,7 +6,7 @@ use Rattle.stg_net.specs.Run.{IsRun, IsEnabled, reached}
 use Rattle.stg_net.specs.Initial.{graph_of}
 use Rattle.stg_laws.specs.Cuts.{Label, names_of, cut, IsNamedRun, IsCutOfRun, IsTraceOfRun, IsNameList, IsTrace}
 use Rattle.stg_laws.specs.Deterministic.{HasNoDummy, IsDeterministic}
-use Rattle.stg_laws.specs.Stgs.{Stg, stg_of, drives}
+use Rattle.stg_laws.specs.Stgs.{Stg, stg_of, Drives}
 use Rattle.stg_laws.specs.Correct.{AreWired, IsCorrect}
 
 -- after the run a transition of this name is enabled
@@ -18,7 +18,7 @@ pub record CanFire (g : Graph) (run : List ℕ) (name : FullName) : Type 0 where
 -- where a transition of a signal that x drives is enabled in x after the cut of a run of the specification, the one of that full name is enabled in the specification after the run
 abbrev pub OwnTransitionsAgree : Graph → Stg → Type 0
 OwnTransitionsAgree spec x = (run part_run : List ℕ) (t : ℕ) (name : FullName) → IsRun spec run → IsRun x.graph part_run → names_of x.graph part_run ≡ cut spec x.graph.known run
-    → full_name_at x.graph t ≡ Some name → drives x name.signal → IsEnabled x.graph (reached x.graph part_run) t → CanFire spec run name
+    → full_name_at x.graph t ≡ Some name → Drives x name.signal → IsEnabled x.graph (reached x.graph part_run) t → CanFire spec run name
 
 -- the component x does what the specification does, as far as its signals show it
 pub record IsFaithful (spec : Graph) (x : Stg) : Type 0 where

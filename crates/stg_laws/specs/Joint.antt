@@ -3,7 +3,7 @@ use Rattle.std.specs.Prelude.{◌≡◌, ℕ, ◌<◌, List, length, Some}
 use Rattle.stg_net.specs.Graph.{Graph, FullName, full_name_at}
 use Rattle.stg_net.specs.Run.{Marking, IsEnabled, IsRun, fired, reached}
 use Rattle.stg_laws.specs.Cuts.{Label, label_of, names_of, cut}
-use Rattle.stg_laws.specs.Stgs.{Stg, stg_at, knows}
+use Rattle.stg_laws.specs.Stgs.{Stg, stg_at, Knows}
 
 -- one marking for each component, by its number; other numbers don't matter
 abbrev pub JointMarking : Type 0
@@ -20,29 +20,29 @@ pub record Moves (g : Graph) (label : Label) (m n : Marking) : Type 0 where
   pub trans : ℕ
   pub labelled : HasLabel g trans label
   pub enabled : IsEnabled g m trans
-  pub marks : (p : ℕ) → n p ≡ fired g m trans p
+  pub marking : (p : ℕ) → n p ≡ fired g m trans p
 
 -- the names are those of a run that reaches m
 pub record Reaches (g : Graph) (names : List FullName) (m : Marking) : Type 0 where
   pub run : List ℕ
   pub runs : IsRun g run
   pub named : names_of g run ≡ names
-  pub marks : (p : ℕ) → m p ≡ reached g run p
+  pub marking : (p : ℕ) → m p ≡ reached g run p
 
 -- one run of the specification reaches m, and its cut to the signals of each component is a run that reaches the component's marking
 pub record AreRelated (spec : Graph) (components : List Stg) (m : Marking) (joint : JointMarking) : Type 0 where
   pub run : List ℕ
   pub runs : IsRun spec run
-  pub marks : (p : ℕ) → m p ≡ reached spec run p
+  pub marking : (p : ℕ) → m p ≡ reached spec run p
   pub each : (i : ℕ) → i < length components → Reaches (stg_at components i).graph (cut spec (stg_at components i).graph.known run) (joint i)
 
 -- some component knows the signal; each that knows it fires a transition of the label, and the others stay
 pub record IsJointStep (components : List Stg) (label : Label) (old new : JointMarking) : Type 0 where
   pub one : ℕ
   pub there : one < length components
-  pub one_knows : knows (stg_at components one) label.signal
-  pub moves : (i : ℕ) → i < length components → knows (stg_at components i) label.signal → Moves (stg_at components i).graph label (old i) (new i)
-  pub stays : (i : ℕ) → i < length components → ¬ knows (stg_at components i) label.signal → (p : ℕ) → new i p ≡ old i p
+  pub one_knows : Knows (stg_at components one) label.signal
+  pub moves : (i : ℕ) → i < length components → Knows (stg_at components i) label.signal → Moves (stg_at components i).graph label (old i) (new i)
+  pub stays : (i : ℕ) → i < length components → ¬ Knows (stg_at components i) label.signal → (p : ℕ) → new i p ≡ old i p
 
 -- a joint step of the label is possible
 pub record CanStep (components : List Stg) (label : Label) (joint : JointMarking) : Type 0 where

@@ -12,7 +12,7 @@ use Rattle.stg_laws.specs.Cuts.{cut, HaveSameNameLists}
 use Rattle.stg_laws.specs.Deterministic.{IsClean, HasNoDummy, IsDeterministic}
 use Rattle.stg_laws.specs.Conflict.{HasNoAutoConflict}
 use Rattle.stg_laws.specs.Consistent.{HasNoToggle, IsConsistent}
-use Rattle.stg_laws.specs.Stgs.{Stg, HasDistinctNames, IsStg, stg_of, stg_at, drives, IsInternal}
+use Rattle.stg_laws.specs.Stgs.{Stg, HasDistinctNames, IsStg, stg_of, stg_at, Drives, IsInternal}
 use Rattle.stg_laws.specs.Correct.{AreWired, IsCorrect}
 use Rattle.stg_laws.specs.Faithful.{IsFaithful}
 use Rattle.stg_laws.specs.Renumbered.{IsRenumbered}
@@ -28,7 +28,7 @@ FaithfulPartsAreCorrect = (spec : Stg) (components : List Stg) → IsDeterminist
 
 -- both drive the same signals, and keep the same ones inside
 pub record DriveTheSame (x y : Stg) : Type 0 where
-  pub driven : (s : List ℕ) → drives x s ↔ drives y s
+  pub driven : (s : List ℕ) → Drives x s ↔ Drives y s
   pub internals : (s : List ℕ) → IsInternal x s ↔ IsInternal y s
 
 -- a net in order is the same graph with other numbers

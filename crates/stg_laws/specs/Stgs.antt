@@ -28,12 +28,12 @@ abbrev pub stg_of : NetLists → Stg
 stg_of n = record { graph = graph_of n; driven = names_where is_driven n.signals; internals = names_where (is_kind Internal) n.signals }
 
 -- it knows the signal
-abbrev pub knows : Stg → List ℕ → Type 0
-knows x signal = IsTrue (is_among x.graph.known signal)
+abbrev pub Knows : Stg → List ℕ → Type 0
+Knows x signal = IsTrue (is_among x.graph.known signal)
 
 -- the signal is one of its outputs or of its internal signals
-abbrev pub drives : Stg → List ℕ → Type 0
-drives x signal = IsTrue (is_among x.driven signal)
+abbrev pub Drives : Stg → List ℕ → Type 0
+Drives x signal = IsTrue (is_among x.driven signal)
 
 -- the signal is one of its internal signals
 abbrev pub IsInternal : Stg → List ℕ → Type 0
@@ -41,8 +41,8 @@ IsInternal x signal = IsTrue (is_among x.internals signal)
 
 -- it knows the signal and doesn't drive it
 pub record IsInput (x : Stg) (signal : List ℕ) : Type 0 where
-  pub known : knows x signal
-  pub not_driven : ¬ drives x signal
+  pub known : Knows x signal
+  pub not_driven : ¬ Drives x signal
 
 -- full names tell the transitions apart
 abbrev pub HasDistinctNames : Graph → Type 0
@@ -51,7 +51,7 @@ HasDistinctNames g = (t u : ℕ) (name : FullName) → full_name_at g t ≡ Some
 -- full names tell its transitions apart, and it knows what it drives
 pub record IsStg (x : Stg) : Type 0 where
   pub distinct : HasDistinctNames x.graph
-  pub driven_known : (s : List ℕ) → drives x s → knows x s
+  pub driven_known : (s : List ℕ) → Drives x s → Knows x s
 
 -- an STG without anything, which stands at no number
 abbrev pub no_stg : Stg

@@ -16,7 +16,7 @@ use Rattle.stg_net.specs.declared.arc.NetArc.{NetArc}
 use Rattle.stg_net.specs.declared.builder.NetBuilder.TheInside.{Inside}
 use Rattle.stg_net.specs.Net.{IsNet, IsBefore, IsArcOf, IsWithin}
 use Rattle.stg_net.specs.Building.{HasEnds}
-use Rattle.stg_net.specs.Builder.{Name, name_eq, signal_of, IsBuilder}
+use Rattle.stg_net.specs.Builder.{Name, name_eq, entry_signal, IsBuilder}
 use Rattle.stg_net.proofs.Pairs.{AllPairs-permutation, AllPairs-from_adjacent}
 
 -- the order in which a sort puts arcs
@@ -26,14 +26,14 @@ arc_cmp a b = ordering_then (nat_cmp a.place b.place) (ordering_then (nat_cmp a.
 apart : (x y : Name) → name_eq x y ≡ false → x.items ≢ y.items
 apart x y unlike same = true≢false (sym ((bytes_eq-Decides x.items y.items).1 same) ∙ unlike)
 
-first_apart : (e : Name × Kind) (es : List (Name × Kind)) → AllByRecursion (λ k. name_eq e.0 k ≡ false) (keys_of es) → All (λ (t : Signal). e.0.items ≢ t.name) (map signal_of es)
+first_apart : (e : Name × Kind) (es : List (Name × Kind)) → AllByRecursion (λ k. name_eq e.0 k ≡ false) (keys_of es) → All (λ (t : Signal). e.0.items ≢ t.name) (map entry_signal es)
 first_apart e [] unlike = All-nil _
-first_apart e (f ∷ es) unlike = All-cons (λ (t : Signal). e.0.items ≢ t.name) (signal_of f) (map signal_of es) (apart e.0 f.0 unlike.0) (first_apart e es unlike.1)
+first_apart e (f ∷ es) unlike = All-cons (λ (t : Signal). e.0.items ≢ t.name) (entry_signal f) (map entry_signal es) (apart e.0 f.0 unlike.0) (first_apart e es unlike.1)
 
-names_apart : (es : List (Name × Kind)) → IsDistinct name_eq (keys_of es) → AllPairs (λ (s t : Signal). s.name ≢ t.name) (map signal_of es)
+names_apart : (es : List (Name × Kind)) → IsDistinct name_eq (keys_of es) → AllPairs (λ (s t : Signal). s.name ≢ t.name) (map entry_signal es)
 unfolding IsDistinct
 names_apart [] unlike = λ i j d lt below. absurd (omega arith)
-names_apart (e ∷ es) unlike = AllPairs-cons (λ (s t : Signal). s.name ≢ t.name) (signal_of e) (map signal_of es) (first_apart e es unlike.0) (names_apart es unlike.1)
+names_apart (e ∷ es) unlike = AllPairs-cons (λ (s t : Signal). s.name ≢ t.name) (entry_signal e) (map entry_signal es) (first_apart e es unlike.0) (names_apart es unlike.1)
 
 -- of two arcs with different ends, the one that isn't after the other is before it
 in_order : (p q t u v w : ℕ) (a b : Bool) → is_lt (ordering_then (nat_cmp q p) (ordering_then (nat_cmp u t) (ordering_then (bool_cmp b a) (nat_cmp w v)))) ≡ false
@@ -58,23 +58,23 @@ arcs_in_order xs ys moved ends sorted =
     before_trans x y z p q = grind arith
 
 -- the lists of a builder, with its arcs sorted, are a net
-pub finished : (b : Inside) (signals : List Signal) (arcs : List NetArc) → IsBuilder b → signals ≡ map signal_of b.signals.entries → IsPermutation b.arcs.items arcs → IsSorted arc_cmp arcs
+pub finished : (b : Inside) (signals : List Signal) (arcs : List NetArc) → IsBuilder b → signals ≡ map entry_signal b.signals.entries → IsPermutation b.arcs.items arcs → IsSorted arc_cmp arcs
     → IsNet (record { signals = signals; trans = b.trans.items; tokens = b.tokens.items; arcs = arcs })
 finished b signals arcs holds same moved sorted = record {
   signal_names = rw same (names_apart b.signals.entries holds.names);
   trans_names = holds.trans_names;
-  trans_signals = rw (same, length-map b.signals.entries signal_of) holds.trans_signals;
+  trans_signals = rw (same, length-map b.signals.entries entry_signal) holds.trans_signals;
   arcs = All-permutation (IsArcOf (length b.tokens.items) (length b.trans.items)) _ _ moved holds.arcs_there;
   ordered = arcs_in_order b.arcs.items arcs moved holds.distinct sorted;
-  signals_fit = rw (same, length-map b.signals.entries signal_of) (omega (arith, holds.signals, holds.signals_fit));
+  signals_fit = rw (same, length-map b.signals.entries entry_signal) (omega (arith, holds.signals, holds.signals_fit));
   trans_fit = omega (arith, holds.trans, holds.trans_fit);
   places_fit = omega (arith, holds.places, holds.places_fit);
 }
 
-pub finished_within : (b : Inside) (signals : List Signal) (arcs : List NetArc) → IsBuilder b → signals ≡ map signal_of b.signals.entries → IsPermutation b.arcs.items arcs
+pub finished_within : (b : Inside) (signals : List Signal) (arcs : List NetArc) → IsBuilder b → signals ≡ map entry_signal b.signals.entries → IsPermutation b.arcs.items arcs
     → IsWithin b.limits (record { signals = signals; trans = b.trans.items; tokens = b.tokens.items; arcs = arcs })
 finished_within b signals arcs holds same moved = record {
-  signals = rw (same, length-map b.signals.entries signal_of) holds.signals;
+  signals = rw (same, length-map b.signals.entries entry_signal) holds.signals;
   trans = holds.trans;
   places = holds.places;
   arcs = rw (length_permutation _ _ moved) holds.arcs;

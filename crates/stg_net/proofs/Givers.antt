@@ -3,7 +3,7 @@ use Rattle.std.proofs.Common.{◌≡◌, ℕ, zero, suc, ◌<◌, ◌==◌, ◌&
 use Rattle.std.proofs.Math.ListN.{set}
 use Rattle.std.proofs.lemmas.Bool.{cases_eq, ne_eqb}
 use Rattle.stg_net.specs.declared.arc.NetArc.{NetArc}
-use Rattle.stg_net.specs.Ordered.{listed_below, numbers_where, numbers_by, least_giver, lowered}
+use Rattle.stg_net.specs.Ordered.{listed_below, numbers_where, numbers_by, least_giver, givers_after}
 
 lesser : (b : Bool) (t u x y : ℕ) → x ≡ min t y → cond b (min u x) x ≡ min t (cond b (min u y) y)
 lesser true t u x y e = omega (arith, e)
@@ -16,20 +16,20 @@ least_giver-min t none p (a ∷ arcs) =
     lesser (a.into && (a.place == p)) t a.trans (least_giver (min t none) p arcs) (least_giver none p arcs) (least_giver-min t none p arcs)
 
 -- the least so far, after one more arc to the place q
-abbrev lowered_at : Bool → ℕ → ℕ → List ℕ → List ℕ
-lowered_at into t q keys = cond into (set keys q (min t (get_or keys q 0))) keys
+abbrev givers_after_at : Bool → ℕ → ℕ → List ℕ → List ℕ
+givers_after_at into t q keys = cond into (set keys q (min t (get_or keys q 0))) keys
 
-length-lowered_at : (into : Bool) (t q : ℕ) (keys : List ℕ) → length (lowered_at into t q keys) ≡ length keys
-length-lowered_at true t q keys = length-set keys q (min t (get_or keys q 0))
-length-lowered_at false t q keys = refl
+length-givers_after_at : (into : Bool) (t q : ℕ) (keys : List ℕ) → length (givers_after_at into t q keys) ≡ length keys
+length-givers_after_at true t q keys = length-set keys q (min t (get_or keys q 0))
+length-givers_after_at false t q keys = refl
 
-pub length-lowered : (a : NetArc) (keys : List ℕ) → length (lowered a keys) ≡ length keys
-length-lowered a keys = length-lowered_at a.into a.trans a.place keys
+pub length-givers_after : (a : NetArc) (keys : List ℕ) → length (givers_after a keys) ≡ length keys
+length-givers_after a keys = length-givers_after_at a.into a.trans a.place keys
 
-lowered_gives : (into : Bool) (t q : ℕ) (keys : List ℕ) (arcs : List NetArc) (p : ℕ) → q < length keys
-    → least_giver (get_or (lowered_at into t q keys) p 0) p arcs ≡ cond (into && (q == p)) (min t (least_giver (get_or keys p 0) p arcs)) (least_giver (get_or keys p 0) p arcs)
-lowered_gives false t q keys arcs p inside = refl
-lowered_gives true t q keys arcs p inside =
+givers_after_gives : (into : Bool) (t q : ℕ) (keys : List ℕ) (arcs : List NetArc) (p : ℕ) → q < length keys
+    → least_giver (get_or (givers_after_at into t q keys) p 0) p arcs ≡ cond (into && (q == p)) (min t (least_giver (get_or keys p 0) p arcs)) (least_giver (get_or keys p 0) p arcs)
+givers_after_gives false t q keys arcs p inside = refl
+givers_after_gives true t q keys arcs p inside =
     let least = min t (get_or keys q 0) in
     elim (cases_eq q p) [
       | inl same ↦
@@ -40,8 +40,8 @@ lowered_gives true t q keys arcs p inside =
 
 -- what an arc does to the least so far, it does to the least of all that is left
 pub givers_more : (a : NetArc) (keys : List ℕ) (arcs : List NetArc) (p : ℕ) → a.place < length keys
-    → least_giver (get_or (lowered a keys) p 0) p arcs ≡ least_giver (get_or keys p 0) p (a ∷ arcs)
-givers_more a keys arcs p inside = lowered_gives a.into a.trans a.place keys arcs p inside
+    → least_giver (get_or (givers_after a keys) p 0) p arcs ≡ least_giver (get_or keys p 0) p (a ∷ arcs)
+givers_more a keys arcs p inside = givers_after_gives a.into a.trans a.place keys arcs p inside
 
 -- tests that agree below the bound pass the same numbers
 pub numbers_where-agree : (f g : ℕ → Bool) (n : ℕ) → ((k : ℕ) → k < n → f k ≡ g k) → numbers_where f n ≡ numbers_where g n

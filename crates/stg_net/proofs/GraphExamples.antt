@@ -1,4 +1,4 @@
--- The definitions of graphs computed on a net with weights: three places, of which the contraction of the third transition joins two.
+-- The definitions of graphs computed on a net with weights: three places, of which the contraction of the third transition makes one of two.
 use Rattle.std.proofs.Common.{◌≡◌, ℕ, ◌≤◌, true, false, [], ◌∷◌, Some, None, refl, zero, suc, arith, codes, map}
 use Rattle.stg_net.specs.declared.signal.Kind.TheVariants.{Input, Output}
 use Rattle.stg_net.specs.declared.trans.Edge.TheVariants.{Rise}

@@ -8,7 +8,7 @@ pub mod Maps
 pub mod Orders
 pub mod Moved
 pub mod Givers
-pub mod Shown
+pub mod ComponentSignals
 pub mod Weights
 pub mod Signals
 pub mod Edges

@@ -10,10 +10,10 @@ use Rattle.stg_net.specs.declared.trans.TransName.{TransName}
 use Rattle.stg_net.specs.declared.arc.NetArc.{NetArc}
 use Rattle.stg_net.specs.Net.{NetLists, IsNet, IsBefore, IsArcOf, trans_at}
 use Rattle.stg_net.specs.Graph.{IsPlace, IsTrans, place_at, full_name_at, taken_by, given_by, takes, gives, tokens_at, tokens_in}
-use Rattle.stg_net.specs.Initial.{goes, joins, weight_of, row, place_of, full_name, initial, graph_of}
+use Rattle.stg_net.specs.Initial.{goes, connects, weight_of, weight_list, place_of, full_name, initial, graph_of}
 
 -- the arc goes this way between t and p
-pub record Joins (into : Bool) (t p : ℕ) (a : NetArc) : Type 0 where
+pub record Connects (into : Bool) (t p : ℕ) (a : NetArc) : Type 0 where
   pub trans_is : a.trans ≡ t
   pub place_is : a.place ≡ p
   pub goes_is : a.into ≡ into
@@ -27,34 +27,34 @@ pub goes_itself : (into : Bool) → goes into into ≡ true
 goes_itself true = refl
 goes_itself false = refl
 
-pub joins_parts : (into : Bool) (t p : ℕ) (a : NetArc) → joins into t p a ≡ true → Joins into t p a
-joins_parts into t p a e =
+pub connects_parts : (into : Bool) (t p : ℕ) (a : NetArc) → connects into t p a ≡ true → Connects into t p a
+connects_parts into t p a e =
     let outer = and_parts ((a.trans == t) && (a.place == p)) (goes into a.into) e in
     let inner = and_parts (a.trans == t) (a.place == p) outer.0 in
     record { trans_is = eqb-true a.trans t inner.0; place_is = eqb-true a.place p inner.1; goes_is = goes_same into a.into outer.1 }
 
-pub joins_whole : (into : Bool) (t p : ℕ) (a : NetArc) → Joins into t p a → joins into t p a ≡ true
-joins_whole into t p a j = rw (eq-eqb a.trans t j.trans_is) (rw (eq-eqb a.place p j.place_is) (ap (goes into) j.goes_is ∙ goes_itself into))
+pub connects_whole : (into : Bool) (t p : ℕ) (a : NetArc) → Connects into t p a → connects into t p a ≡ true
+connects_whole into t p a j = rw (eq-eqb a.trans t j.trans_is) (rw (eq-eqb a.place p j.place_is) (ap (goes into) j.goes_is ∙ goes_itself into))
 
 -- what one arc adds to a weight
 abbrev pub share : Bool → ℕ → ℕ → NetArc → ℕ
-share into t p a = cond (joins into t p a) a.weight 0
+share into t p a = cond (connects into t p a) a.weight 0
 
-pub share_here : (into : Bool) (t p : ℕ) (a : NetArc) → joins into t p a ≡ true → share into t p a ≡ a.weight
+pub share_here : (into : Bool) (t p : ℕ) (a : NetArc) → connects into t p a ≡ true → share into t p a ≡ a.weight
 share_here into t p a e = rw e refl
 
-pub share_none : (into : Bool) (t p : ℕ) (a : NetArc) → joins into t p a ≡ false → share into t p a ≡ 0
+pub share_none : (into : Bool) (t p : ℕ) (a : NetArc) → connects into t p a ≡ false → share into t p a ≡ 0
 share_none into t p a e = rw e refl
 
 pub weight_of-cons : (into : Bool) (t p : ℕ) (a : NetArc) (arcs : List NetArc) → weight_of (a ∷ arcs) into t p ≡ share into t p a + weight_of arcs into t p
 weight_of-cons into t p a arcs = sum_by-cons (share into t p) a arcs
 
-pub weight_of-none : (into : Bool) (t p : ℕ) (arcs : List NetArc) → All (λ a. joins into t p a ≡ false) arcs → weight_of arcs into t p ≡ 0
+pub weight_of-none : (into : Bool) (t p : ℕ) (arcs : List NetArc) → All (λ a. connects into t p a ≡ false) arcs → weight_of arcs into t p ≡ 0
 weight_of-none into t p [] none = refl
 weight_of-none into t p (a ∷ arcs) none =
-    omega (arith, weight_of-cons into t p a arcs, share_none into t p a (All-head (λ a. joins into t p a ≡ false) a arcs none), weight_of-none into t p arcs (All-tail (λ a. joins into t p a ≡ false) a arcs none))
+    omega (arith, weight_of-cons into t p a arcs, share_none into t p a (All-head (λ a. connects into t p a ≡ false) a arcs none), weight_of-none into t p arcs (All-tail (λ a. connects into t p a ≡ false) a arcs none))
 
-before_apart : (into : Bool) (t p : ℕ) (a b : NetArc) → IsBefore a b → Joins into t p a → Joins into t p b → ⊥
+before_apart : (into : Bool) (t p : ℕ) (a b : NetArc) → IsBefore a b → Connects into t p a → Connects into t p b → ⊥
 before_apart into t p a b before j k = elim before [
   | inl l ↦ absurd (omega (arith, l, j.place_is, k.place_is))
   | inr s ↦ elim s.1 [
@@ -63,44 +63,44 @@ before_apart into t p a b before j k = elim before [
   ]
 ]
 
--- where arcs ascend, no two join the same two in the same way
-pub weight_of-arc : (into : Bool) (t p : ℕ) (arcs : List NetArc) (i : ℕ) (d : NetArc) → AllPairs IsBefore arcs → i < length arcs → joins into t p (get_or arcs i d) ≡ true → weight_of arcs into t p ≡ (get_or arcs i d).weight
+-- where arcs ascend, no two connect the same two in the same way
+pub weight_of-arc : (into : Bool) (t p : ℕ) (arcs : List NetArc) (i : ℕ) (d : NetArc) → AllPairs IsBefore arcs → i < length arcs → connects into t p (get_or arcs i d) ≡ true → weight_of arcs into t p ≡ (get_or arcs i d).weight
 weight_of-arc into t p [] i d ordered inside e = absurd (omega arith)
 weight_of-arc into t p (a ∷ arcs) zero d ordered inside e =
-    let others : All (λ b. joins into t p b ≡ false) arcs =
-    λ k c below. false_from_ne_true _ (λ f. before_apart into t p a (get_or arcs k c) (ordered 0 (suc k) c (omega arith) (omega arith)) (joins_parts into t p a e) (joins_parts into t p (get_or arcs k c) f)) in
+    let others : All (λ b. connects into t p b ≡ false) arcs =
+    λ k c below. false_from_ne_true _ (λ f. before_apart into t p a (get_or arcs k c) (ordered 0 (suc k) c (omega arith) (omega arith)) (connects_parts into t p a e) (connects_parts into t p (get_or arcs k c) f)) in
     omega (arith, weight_of-cons into t p a arcs, share_here into t p a e, weight_of-none into t p arcs others)
 weight_of-arc into t p (a ∷ arcs) (suc i) d ordered inside e =
-    let first : joins into t p a ≡ false =
-    false_from_ne_true _ (λ f. before_apart into t p a (get_or arcs i d) (ordered 0 (suc i) d (omega arith) (omega arith)) (joins_parts into t p a f) (joins_parts into t p (get_or arcs i d) e)) in
+    let first : connects into t p a ≡ false =
+    false_from_ne_true _ (λ f. before_apart into t p a (get_or arcs i d) (ordered 0 (suc i) d (omega arith) (omega arith)) (connects_parts into t p a f) (connects_parts into t p (get_or arcs i d) e)) in
     omega (arith, weight_of-cons into t p a arcs, share_none into t p a first, weight_of-arc into t p arcs i d (λ j k c lt below. ordered (suc j) (suc k) c (omega arith) (omega arith)) (omega arith) e)
 
--- an arc of a list that joins the two
-pub record Joint (arcs : List NetArc) (into : Bool) (t p : ℕ) : Type 0 where
+-- an arc of a list that connects the two
+pub record ConnectingArc (arcs : List NetArc) (into : Bool) (t p : ℕ) : Type 0 where
   pub at : ℕ
   pub inside : at < length arcs
   pub arc : NetArc
   pub arc_is : (d : NetArc) → get_or arcs at d ≡ arc
-  pub joins_both : Joins into t p arc
+  pub connects_both : Connects into t p arc
 
-joint_later : (a : NetArc) (arcs : List NetArc) (into : Bool) (t p : ℕ) → Joint arcs into t p → Joint (a ∷ arcs) into t p
-joint_later a arcs into t p j = record { at = suc j.at; inside = omega (arith, j.inside); arc = j.arc; arc_is = j.arc_is; joins_both = j.joins_both }
+connecting_later : (a : NetArc) (arcs : List NetArc) (into : Bool) (t p : ℕ) → ConnectingArc arcs into t p → ConnectingArc (a ∷ arcs) into t p
+connecting_later a arcs into t p j = record { at = suc j.at; inside = omega (arith, j.inside); arc = j.arc; arc_is = j.arc_is; connects_both = j.connects_both }
 
 -- where the weight isn't 0 there is an arc
-pub weight_of-joint : (into : Bool) (t p : ℕ) (arcs : List NetArc) → 0 < weight_of arcs into t p → Joint arcs into t p
-weight_of-joint into t p [] some = absurd (omega arith)
-weight_of-joint into t p (a ∷ arcs) some = elim (cases_Bool (joins into t p a)) [
-  | inl e ↦ record { at = 0; inside = omega arith; arc = a; arc_is = λ d. refl; joins_both = joins_parts into t p a e }
-  | inr e ↦ joint_later a arcs into t p (weight_of-joint into t p arcs (omega (arith, some, weight_of-cons into t p a arcs, share_none into t p a e)))
+pub weight_of-connecting : (into : Bool) (t p : ℕ) (arcs : List NetArc) → 0 < weight_of arcs into t p → ConnectingArc arcs into t p
+weight_of-connecting into t p [] some = absurd (omega arith)
+weight_of-connecting into t p (a ∷ arcs) some = elim (cases_Bool (connects into t p a)) [
+  | inl e ↦ record { at = 0; inside = omega arith; arc = a; arc_is = λ d. refl; connects_both = connects_parts into t p a e }
+  | inr e ↦ connecting_later a arcs into t p (weight_of-connecting into t p arcs (omega (arith, some, weight_of-cons into t p a arcs, share_none into t p a e)))
 ]
 
 past_places : (n : NetLists) (into : Bool) (t p : ℕ) → IsNet n → length n.tokens ≤ p → weight_of n.arcs into t p ≡ 0
 past_places n into t p net past =
-    weight_of-none into t p n.arcs (λ k d below. false_from_ne_true _ (λ e. absurd (omega (arith, past, (net.arcs k d below).place_there, (joins_parts into t p (get_or n.arcs k d) e).place_is))))
+    weight_of-none into t p n.arcs (λ k d below. false_from_ne_true _ (λ e. absurd (omega (arith, past, (net.arcs k d below).place_there, (connects_parts into t p (get_or n.arcs k d) e).place_is))))
 
 past_trans : (n : NetLists) (into : Bool) (t p : ℕ) → IsNet n → length n.trans ≤ t → weight_of n.arcs into t p ≡ 0
 past_trans n into t p net past =
-    weight_of-none into t p n.arcs (λ k d below. false_from_ne_true _ (λ e. absurd (omega (arith, past, (net.arcs k d below).trans_there, (joins_parts into t p (get_or n.arcs k d) e).trans_is))))
+    weight_of-none into t p n.arcs (λ k d below. false_from_ne_true _ (λ e. absurd (omega (arith, past, (net.arcs k d below).trans_there, (connects_parts into t p (get_or n.arcs k d) e).trans_is))))
 
 pub place_at-initial : (n : NetLists) (known : List ℕ) (p : ℕ) → p < length n.tokens → place_at (initial n known) p ≡ place_of n p
 place_at-initial n known p inside = get_or-map-range_with_len (place_of n) 0 (length n.tokens) p p None inside (zero-add p)
@@ -108,25 +108,25 @@ place_at-initial n known p inside = get_or-map-range_with_len (place_of n) 0 (le
 pub place_at-past : (n : NetLists) (known : List ℕ) (p : ℕ) → length n.tokens ≤ p → place_at (initial n known) p ≡ None
 place_at-past n known p past = get_or_past (map (place_of n) (range_with_len 0 (length n.tokens))) p None (omega (arith, past, length-map-range_with_len (place_of n) 0 (length n.tokens)))
 
-row_at : (n : NetLists) (into : Bool) (t p : ℕ) → IsNet n → get_or (row (length n.trans) (λ u. weight_of n.arcs into u p)) t 0 ≡ weight_of n.arcs into t p
-row_at n into t p net = elim (cases_lt t (length n.trans)) [
+weight_list-at : (n : NetLists) (into : Bool) (t p : ℕ) → IsNet n → get_or (weight_list (length n.trans) (λ u. weight_of n.arcs into u p)) t 0 ≡ weight_of n.arcs into t p
+weight_list-at n into t p net = elim (cases_lt t (length n.trans)) [
   | inl below ↦ get_or-map-range_with_len (λ u. weight_of n.arcs into u p) 0 (length n.trans) t t 0 below (zero-add t)
   | inr past ↦
-      get_or_past (row (length n.trans) (λ u. weight_of n.arcs into u p)) t 0 (omega (arith, past, length-map-range_with_len (λ u. weight_of n.arcs into u p) 0 (length n.trans)))
+      get_or_past (weight_list (length n.trans) (λ u. weight_of n.arcs into u p)) t 0 (omega (arith, past, length-map-range_with_len (λ u. weight_of n.arcs into u p) 0 (length n.trans)))
       ∙ sym (past_trans n into t p net past)
 ]
 
 -- what a transition of an initial component takes
 pub takes-initial : (n : NetLists) (known : List ℕ) (t p : ℕ) → IsNet n → takes (initial n known) t p ≡ weight_of n.arcs false t p
 takes-initial n known t p net = elim (cases_lt p (length n.tokens)) [
-  | inl below ↦ ap (taken_by t) (place_at-initial n known p below) ∙ row_at n false t p net
+  | inl below ↦ ap (taken_by t) (place_at-initial n known p below) ∙ weight_list-at n false t p net
   | inr past ↦ ap (taken_by t) (place_at-past n known p past) ∙ sym (past_places n false t p net past)
 ]
 
 -- what a transition of an initial component gives
 pub gives-initial : (n : NetLists) (known : List ℕ) (t p : ℕ) → IsNet n → gives (initial n known) t p ≡ weight_of n.arcs true t p
 gives-initial n known t p net = elim (cases_lt p (length n.tokens)) [
-  | inl below ↦ ap (given_by t) (place_at-initial n known p below) ∙ row_at n true t p net
+  | inl below ↦ ap (given_by t) (place_at-initial n known p below) ∙ weight_list-at n true t p net
   | inr past ↦ ap (given_by t) (place_at-past n known p past) ∙ sym (past_places n true t p net past)
 ]
 
@@ -145,22 +145,22 @@ pub gives-graph_of : (n : NetLists) (t p : ℕ) → IsNet n → gives (graph_of 
 gives-graph_of n t p net = gives-initial n (range_with_len 0 (length n.signals)) t p net
 
 -- where a transition takes or gives there is an arc
-pub takes-joint : (n : NetLists) (t p : ℕ) → IsNet n → 0 < takes (graph_of n) t p → Joint n.arcs false t p
-takes-joint n t p net some = weight_of-joint false t p n.arcs (omega (arith, some, takes-graph_of n t p net))
+pub takes-connecting : (n : NetLists) (t p : ℕ) → IsNet n → 0 < takes (graph_of n) t p → ConnectingArc n.arcs false t p
+takes-connecting n t p net some = weight_of-connecting false t p n.arcs (omega (arith, some, takes-graph_of n t p net))
 
-pub gives-joint : (n : NetLists) (t p : ℕ) → IsNet n → 0 < gives (graph_of n) t p → Joint n.arcs true t p
-gives-joint n t p net some = weight_of-joint true t p n.arcs (omega (arith, some, gives-graph_of n t p net))
+pub gives-connecting : (n : NetLists) (t p : ℕ) → IsNet n → 0 < gives (graph_of n) t p → ConnectingArc n.arcs true t p
+gives-connecting n t p net some = weight_of-connecting true t p n.arcs (omega (arith, some, gives-graph_of n t p net))
 
-module _ (n : NetLists) (into : Bool) (t p : ℕ) (net : IsNet n) (j : Joint n.arcs into t p) where
-  joint_arc : IsArcOf (length n.tokens) (length n.trans) j.arc
-  joint_arc = subst (IsArcOf (length n.tokens) (length n.trans)) (j.arc_is j.arc) (net.arcs j.at j.arc j.inside)
+module _ (n : NetLists) (into : Bool) (t p : ℕ) (net : IsNet n) (j : ConnectingArc n.arcs into t p) where
+  connecting_arc : IsArcOf (length n.tokens) (length n.trans) j.arc
+  connecting_arc = subst (IsArcOf (length n.tokens) (length n.trans)) (j.arc_is j.arc) (net.arcs j.at j.arc j.inside)
 
   -- the ends of an arc are there
-  pub joint_there : t < length n.trans
-  joint_there = omega (arith, joint_arc.trans_there, j.joins_both.trans_is)
+  pub connecting_there : t < length n.trans
+  connecting_there = omega (arith, connecting_arc.trans_there, j.connects_both.trans_is)
 
-  pub joint_place : p < length n.tokens
-  joint_place = omega (arith, joint_arc.place_there, j.joins_both.place_is)
+  pub connecting_place : p < length n.tokens
+  connecting_place = omega (arith, connecting_arc.place_there, j.connects_both.place_is)
 
 -- the transitions of a net are live
 pub full_name_at-initial : (n : NetLists) (known : List ℕ) (t : ℕ) (d : TransName) → t < length n.trans → full_name_at (initial n known) t ≡ Some (full_name n (get_or n.trans t d))

@@ -20,12 +20,12 @@ abbrev pub name_eq : Name → Name → Bool
 name_eq x y = pointwise nat_eq x.items y.items
 
 -- the signal of an entry
-abbrev pub signal_of : Name × Kind → Signal
-signal_of e = record { name = e.0.items; kind = e.1 }
+abbrev pub entry_signal : Name × Kind → Signal
+entry_signal e = record { name = e.0.items; kind = e.1 }
 
 -- the signals are the entries of the map, in its order
 abbrev pub building_of : Inside → Building
-building_of b = record { limits = b.limits; lists = record { signals = map signal_of b.signals.entries; trans = b.trans.items; tokens = b.tokens.items; arcs = b.arcs.items } }
+building_of b = record { limits = b.limits; lists = record { signals = map entry_signal b.signals.entries; trans = b.trans.items; tokens = b.tokens.items; arcs = b.arcs.items } }
 
 -- each count is within its limit, names and arcs differ, and numbers are there
 pub record IsBuilder (b : Inside) : Type 0 where

@@ -1,4 +1,4 @@
--- A net as a component shows it.
+-- The net of a component.
 use Rattle.std.specs.Prelude.{ℕ, Bool, ◌==◌, List, map, if◌then◌else◌}
 use Rattle.std.specs.List.{list_any, enumerate_from}
 use Rattle.stg_net.specs.declared.signal.Kind.{Kind}
@@ -17,13 +17,13 @@ abbrev pub is_one_of : List ℕ → ℕ → Bool
 is_one_of numbers k = list_any (λ o. o == k) numbers
 
 -- an own signal keeps its kind, or has that of a shared one; every other one is an input
-abbrev pub kind_shown : List ℕ → List ℕ → ℕ → Kind → Kind
-kind_shown own shared k kind = if is_one_of own k then (if is_one_of shared k then shared_kind kind else kind) else Input
+abbrev pub component_kind : List ℕ → List ℕ → ℕ → Kind → Kind
+component_kind own shared k kind = if is_one_of own k then (if is_one_of shared k then shared_kind kind else kind) else Input
 
--- a signal of that number, with the kind that the component shows
-abbrev pub shown : List ℕ → List ℕ → ℕ × Signal → Signal
-shown own shared (k, s) = record s { kind = kind_shown own shared k s.kind }
+-- a signal of that number, with the kind that it has in the component
+abbrev pub component_signal : List ℕ → List ℕ → ℕ × Signal → Signal
+component_signal own shared (k, s) = record s { kind = component_kind own shared k s.kind }
 
--- the net with all its signals as one component shows it, which owns some of them; other components know those that are shared
+-- the net as the component that owns these signals; other components know those that are shared
 abbrev pub component : List ℕ → List ℕ → NetLists → NetLists
-component own shared n = record n { signals = map (shown own shared) (enumerate_from 0 n.signals) }
+component own shared n = record n { signals = map (component_signal own shared) (enumerate_from 0 n.signals) }

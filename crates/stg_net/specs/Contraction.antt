@@ -20,8 +20,8 @@ abbrev pub each_other : Graph → ℕ → (ℕ → ℕ) → List ℕ
 each_other g t weight = map (λ u. (if u == t then 0 else weight u)) (range_with_len 0 (length g.trans))
 
 -- the place that stands for p and q once t is contracted: tokens and weights are the sums of theirs
-abbrev pub joined : Graph → ℕ → ℕ × ℕ → Option Place
-joined g t (p, q) = Some (record {
+abbrev pub pair_place : Graph → ℕ → ℕ × ℕ → Option Place
+pair_place g t (p, q) = Some (record {
   tokens = tokens_at g p + tokens_at g q;
   taken = each_other g t (λ u. takes g u p + takes g u q);
   given = each_other g t (λ u. gives g u p + gives g u q);
@@ -32,13 +32,13 @@ abbrev pub is_touched : Graph → ℕ → ℕ → Bool
 is_touched g t p = nat_lt 0 (takes g t p) || nat_lt 0 (gives g t p)
 
 -- what is left of p once t is contracted
-abbrev pub untouched : Graph → ℕ → ℕ → Option Place
-untouched g t p = if is_touched g t p then None else place_at g p
+abbrev pub remaining_place : Graph → ℕ → ℕ → Option Place
+remaining_place g t p = if is_touched g t p then None else place_at g p
 
 -- the graph in which t is contracted: t and the places around it have gone, and each pair of them has a new place
 abbrev pub contracted : Graph → ℕ → Graph
 contracted g t = record g {
-  places = map (untouched g t) (place_numbers g) ++ map (joined g t) (pairs_round g t);
+  places = map (remaining_place g t) (place_numbers g) ++ map (pair_place g t) (pairs_round g t);
   trans = slice_set g.trans t None;
 }
 

@@ -12,23 +12,23 @@ goes true into = into
 goes false into = not into
 
 -- whether the arc goes this way between t and p
-abbrev pub joins : Bool → ℕ → ℕ → NetArc → Bool
-joins into t p a = (a.trans == t) && (a.place == p) && goes into a.into
+abbrev pub connects : Bool → ℕ → ℕ → NetArc → Bool
+connects into t p a = (a.trans == t) && (a.place == p) && goes into a.into
 
 -- the weight of the arc between t and p, into the place or out of it; 0 where there is none
 abbrev pub weight_of : List NetArc → Bool → ℕ → ℕ → ℕ
-weight_of arcs into t p = sum_by (λ (a : NetArc). if joins into t p a then a.weight else 0) arcs
+weight_of arcs into t p = sum_by (λ (a : NetArc). if connects into t p a then a.weight else 0) arcs
 
--- the numbers of a place at all transitions
-abbrev pub row : ℕ → (ℕ → ℕ) → List ℕ
-row trans weight = map weight (range_with_len 0 trans)
+-- the weights of a place at all transitions
+abbrev pub weight_list : ℕ → (ℕ → ℕ) → List ℕ
+weight_list trans weight = map weight (range_with_len 0 trans)
 
 -- the place of that number, with its tokens and its weights at all transitions
 abbrev pub place_of : NetLists → ℕ → Option Place
 place_of n p = Some (record {
   tokens = slice_index n.tokens p;
-  taken = row (length n.trans) (λ t. weight_of n.arcs false t p);
-  given = row (length n.trans) (λ t. weight_of n.arcs true t p);
+  taken = weight_list (length n.trans) (λ t. weight_of n.arcs false t p);
+  given = weight_list (length n.trans) (λ t. weight_of n.arcs true t p);
 })
 
 -- the transition's name with the name of its signal

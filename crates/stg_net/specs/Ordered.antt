@@ -47,8 +47,8 @@ least_giver none p [] = none
 least_giver none p (a ∷ arcs) = if a.into && (a.place == p) then min a.trans (least_giver none p arcs) else least_giver none p arcs
 
 -- the least giver so far of each place, after one more arc
-abbrev pub lowered : NetArc → List ℕ → List ℕ
-lowered a keys = if a.into then slice_set keys a.place (min a.trans (slice_index keys a.place)) else keys
+abbrev pub givers_after : NetArc → List ℕ → List ℕ
+givers_after a keys = if a.into then slice_set keys a.place (min a.trans (slice_index keys a.place)) else keys
 
 -- the first transition that gives to the place, or the number of transitions where none does
 abbrev pub first_giver : NetLists → ℕ → ℕ

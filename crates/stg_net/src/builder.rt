@@ -140,7 +140,7 @@ impl NetBuilder {
         ensures number { IfOk result (λ k. k ≡ length self.old.lists.tokens) }
         ensures ok { OnOk result (self.new ≡ with_place self.old tokens) }
         ensures room { OnOk result (length self.old.lists.tokens < self.old.limits.places) }
-        ensures bare { OnOk result (All (λ (a : NetArc). a.place < length self.old.lists.tokens) self.old.lists.arcs) }
+        ensures unused { OnOk result (All (λ (a : NetArc). a.place < length self.old.lists.tokens) self.old.lists.arcs) }
         ensures full { IsErrOf result BuildError.TooManyPlaces ↔ (length self.old.lists.tokens ≡ self.old.limits.places) }
         ensures only { OnlyErr BuildError.TooManyPlaces result }
         ensures err { OnErr result (self.new ≡ self.old) }

@@ -5,7 +5,7 @@ ghost use Rattle.std.specs.List.{enumerate_from};
 ghost use Rattle.stg_net.specs.declared.limits.Limits.{Limits};
 ghost use Rattle.stg_net.specs.Net.{IsNet, IsWithin};
 ghost use Rattle.stg_net.specs.Names.{IsWellNamed};
-ghost use Rattle.stg_net.specs.Component.{is_one_of, shared_kind, kind_shown, shown};
+ghost use Rattle.stg_net.specs.Component.{is_one_of, shared_kind, component_kind, component_signal};
 ghost use Rattle.stg_net.specs.Component as lists;
 
 use crate::{Kind, NetArc, NoMemory, Nums, Seq, Signal, TransName};
@@ -77,15 +77,15 @@ impl Net {
         self.arcs.as_slice()
     }
 
-    /// Makes the net that a component shows: the signals of `own` keep their kinds, an internal one
-    /// that is in `shared` too is an output, and every other signal is an input.
+    /// Makes the net of a component: the signals of `own` keep their kinds, an internal one that is
+    /// in `shared` too is an output, and every other signal is an input.
     pub fn component(&self, alloc: Global, own: &[u32], shared: &[u32]) -> Result<Net, NoMemory>
         ensures value { IfOk result (λ n. n ≡ lists.component own.now shared.now self.now) }
         ensures within { IfOk result (λ n. (l : Limits) → IsWithin l self.now → IsWithin l n) }
         ensures named { IfOk result (λ n. IsWellNamed self.now → IsWellNamed n) }
     {
         Ok(Net::of(
-            show_signals(alloc, own, shared, self.signals())?,
+            component_signals(alloc, own, shared, self.signals())?,
             Seq::from_slice(alloc, self.trans())?,
             Seq::from_slice(alloc, self.tokens())?,
             Seq::from_slice(alloc, self.arcs())?,
@@ -110,8 +110,8 @@ fn share(kind: Kind) -> Kind
     }
 }
 
-fn show_kind(own: &[u32], shared: &[u32], s: usize, kind: Kind) -> Kind
-    ensures { result ≡ kind_shown own.now shared.now s kind }
+fn component_kind(own: &[u32], shared: &[u32], s: usize, kind: Kind) -> Kind
+    ensures { result ≡ component_kind own.now shared.now s kind }
 {
     if !is_one_of(own, s) {
         Kind::Input
@@ -122,17 +122,17 @@ fn show_kind(own: &[u32], shared: &[u32], s: usize, kind: Kind) -> Kind
     }
 }
 
-fn show_signals(
+fn component_signals(
     alloc: Global,
     own: &[u32],
     shared: &[u32],
     signals: &[Signal],
 ) -> Result<Seq<Signal>, NoMemory>
-    ensures { IfOk result (λ n. n ≡ map (shown own.now shared.now) (enumerate_from 0 signals.now)) }
+    ensures { IfOk result (λ n. n ≡ map (component_signal own.now shared.now) (enumerate_from 0 signals.now)) }
 {
     let mut list = Seq::new(alloc);
     for (s, signal) in signals.iter().enumerate() {
-        list.push(signal.copy_as(alloc, show_kind(own, shared, s, signal.kind))?)?;
+        list.push(signal.copy_as(alloc, component_kind(own, shared, s, signal.kind))?)?;
     }
     Ok(list)
 }

@@ -87,7 +87,7 @@ fn adds_arcs_up_to_the_limit(rt: HostRuntime) -> Result<(), Fail> {
 }
 
 #[test]
-fn orders_a_net_and_shows_it_to_a_component(rt: HostRuntime) -> Result<(), Fail> {
+fn orders_a_net_and_makes_a_component_of_it(rt: HostRuntime) -> Result<(), Fail> {
     let alloc = rt.alloc();
     let mut builder = NetBuilder::new(alloc, Limits::SPEC);
     builder.add_signal(b"x", Kind::Output)?;

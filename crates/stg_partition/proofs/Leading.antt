@@ -1,4 +1,4 @@
--- Leaders stay sound while arcs are joined, and in the end signals in conflict have one leader.
+-- Leaders stay right from arc to arc, and in the end signals in conflict have one leader.
 use Rattle.std.proofs.Common.{◌≡◌, ◌≢◌, ℕ, ◌+◌, ◌<◌, ◌≤◌, ◌&&◌, ◌⊎◌, not, min, max, true, false, List, [], ◌∷◌, length, get_or, All, IfSome, Option, Some, None, IsTrue, refl, sym, ap, ◌∙◌, subst, arith, eq-eqb, inl, inr, get_or-set_same, get_or-set_other, length-set}
 use Rattle.std.proofs.Math.ListN.{set}
 use Rattle.std.specs.List.{range_with_len}
@@ -9,7 +9,7 @@ use Rattle.std.proofs.lemmas.List.FromFn.{length-range_with_len, get_or-range_wi
 use Rattle.stg_net.specs.declared.arc.NetArc.{NetArc}
 use Rattle.stg_net.specs.Net.{NetLists, IsNet}
 use Rattle.stg_laws.specs.Groups.{signal_of, is_driven_at, takes_from, share_place, in_conflict, LeadsTo, AreJoined}
-use Rattle.stg_partition.specs.Joining.{own_taker, relabelled, joined, taker_at, with_first, with_taker, new_leader, IsLedWith, IsLed, IsJoining}
+use Rattle.stg_partition.specs.Joining.{own_taker, relabelled_leader, merged_leader, taker_at, with_first, with_taker, new_leader, IsLedWith, IsLed, IsJoining}
 use Rattle.stg_laws.proofs.KnownSignals.{takes_by}
 use Rattle.stg_partition.proofs.Conflicts.{taker, shared, conflict_at, joined_on, joined_itself, joined_once, joined_back}
 
@@ -17,11 +17,11 @@ use Rattle.stg_partition.proofs.Conflicts.{taker, shared, conflict_at, joined_on
 abbrev pub leader_of : List ℕ → ℕ → ℕ
 leader_of leaders s = get_or leaders s 0
 
-relabelled_from : (from to : ℕ) → relabelled from to from ≡ to
-relabelled_from from to = rw (eq-eqb from from refl) refl
+relabelled_leader-from : (from to : ℕ) → relabelled_leader from to from ≡ to
+relabelled_leader-from from to = rw (eq-eqb from from refl) refl
 
-relabelled_other : (from to x : ℕ) → x ≢ from → relabelled from to x ≡ x
-relabelled_other from to x other = rw (ne_eqb x from other) refl
+relabelled_leader-other : (from to x : ℕ) → x ≢ from → relabelled_leader from to x ≡ x
+relabelled_leader-other from to x other = rw (ne_eqb x from other) refl
 
 -- leaders that are the same at each signal
 led_same : (n : NetLists) (old new : List ℕ) → length new ≡ length old → ((s : ℕ) → s < length old → leader_of new s ≡ leader_of old s) → IsLed n old → IsLed n new
@@ -45,7 +45,7 @@ pub record AreMerged (n : NetLists) (leaders : List ℕ) (from to : ℕ) : Type 
   pub below : to ≤ from
   pub are_joined : AreJoined n high low
 
-led_merged : (n : NetLists) (old new : List ℕ) (from to : ℕ) → length new ≡ length old → AreMerged n old from to → ((s : ℕ) → s < length old → leader_of new s ≡ relabelled from to (leader_of old s)) → IsLed n old → IsLed n new
+led_merged : (n : NetLists) (old new : List ℕ) (from to : ℕ) → length new ≡ length old → AreMerged n old from to → ((s : ℕ) → s < length old → leader_of new s ≡ relabelled_leader from to (leader_of old s)) → IsLed n old → IsLed n new
 led_merged n old new from to long m moved led = record {
   long = long ∙ led.long;
   joined = λ x y hx hy e. joined_new x y (omega (arith, hx, long)) (omega (arith, hy, long)) e;
@@ -54,10 +54,10 @@ led_merged n old new from to long m moved led = record {
 }
   where
     at_from : (x : ℕ) → x < length old → leader_of old x ≡ from → leader_of new x ≡ to
-    at_from x h e = moved x h ∙ ap (relabelled from to) e ∙ relabelled_from from to
+    at_from x h e = moved x h ∙ ap (relabelled_leader from to) e ∙ relabelled_leader-from from to
 
     at_other : (x : ℕ) → x < length old → leader_of old x ≢ from → leader_of new x ≡ leader_of old x
-    at_other x h e = moved x h ∙ relabelled_other from to (leader_of old x) e
+    at_other x h e = moved x h ∙ relabelled_leader-other from to (leader_of old x) e
 
     low_new : (x : ℕ) → x < length old → leader_of new x ≤ x
     low_new x h = elim (cases_eq (leader_of old x) from) [
@@ -103,7 +103,7 @@ led_merged n old new from to long m moved led = record {
     ]
 
 -- the leaders after two signals in conflict are joined
-led_joined : (n : NetLists) (old new : List ℕ) (x y : ℕ) → length new ≡ length old → x < length old → y < length old → AreJoined n x y → ((s : ℕ) → s < length old → leader_of new s ≡ joined old x y (leader_of old s)) → IsLed n old → IsLed n new
+led_joined : (n : NetLists) (old new : List ℕ) (x y : ℕ) → length new ≡ length old → x < length old → y < length old → AreJoined n x y → ((s : ℕ) → s < length old → leader_of new s ≡ merged_leader old x y (leader_of old s)) → IsLed n old → IsLed n new
 led_joined n old new x y long hx hy j moved led = led_merged n old new (max (leader_of old x) (leader_of old y)) (min (leader_of old x) (leader_of old y)) long merged moved led
   where
     merged : AreMerged n old (max (leader_of old x) (leader_of old y)) (min (leader_of old x) (leader_of old y))
@@ -257,10 +257,10 @@ joining_first n i s old new takers after a net inside a_is j long own_is none sa
           subst Q (omega (arith, below, r)) (subst R (sym (a_is d)) here)
     ]
 
-to_least : (from to x : ℕ) → (x ≡ from) ⊎ (x ≡ to) → relabelled from to x ≡ to
+to_least : (from to x : ℕ) → (x ≡ from) ⊎ (x ≡ to) → relabelled_leader from to x ≡ to
 to_least from to x e = elim (cases_eq x from) [
-  | inl f ↦ ap (relabelled from to) f ∙ relabelled_from from to
-  | inr f ↦ elim e [ inl g ↦ absurd (f g) | inr g ↦ relabelled_other from to x f ∙ g ]
+  | inl f ↦ ap (relabelled_leader from to) f ∙ relabelled_leader-from from to
+  | inr f ↦ elim e [ inl g ↦ absurd (f g) | inr g ↦ relabelled_leader-other from to x f ∙ g ]
 ]
 
 one_of : (a b x : ℕ) → (x ≡ a) ⊎ (x ≡ b) → (x ≡ max a b) ⊎ (x ≡ min a b)
@@ -283,7 +283,7 @@ joining_more n i old new takers after a net inside a_is j long told moved = go (
     place_there : a.place < length n.tokens
     place_there = subst (λ (b : NetArc). b.place < length n.tokens) (a_is a) (net.arcs i a inside).place_there
 
-    clash : (s t : ℕ) → own_taker n a ≡ Some s → taker_at takers a.place ≡ Some t → ((x : ℕ) → x < length old → leader_of new x ≡ joined old t s (leader_of old x)) → IsJoining n (i + 1) new after
+    clash : (s t : ℕ) → own_taker n a ≡ Some s → taker_at takers a.place ≡ Some t → ((x : ℕ) → x < length old → leader_of new x ≡ merged_leader old t s (leader_of old x)) → IsJoining n (i + 1) new after
     clash s t own_is taker_is moves =
         let s_there : s < length old = omega (arith, own_there n i s a net inside (ap (own_taker n) (a_is a) ∙ own_is), j.led.long) in
         let t_there : t < length old = taker_there takers (length old) a.place t j.below taker_is in
@@ -301,7 +301,7 @@ joining_more n i old new takers after a net inside a_is j long told moved = go (
         joining_kept n i old new takers after a net inside a_is j long
         (told ∙ ap (λ o. with_taker o a.place takers) own_is ∙ ap (λ q. with_first q s a.place takers) taker_is)
         (led_joined n old new t s long t_there s_there are moves j.led)
-        (λ x y hx hy e. moves x hx ∙ ap (joined old t s) e ∙ sym (moves y hy))
+        (λ x y hx hy e. moves x hx ∙ ap (merged_leader old t s) e ∙ sym (moves y hy))
         (subst P (sym own_is) (subst Q (sym taker_is) same))
 
     go : (o q : Option ℕ) → own_taker n a ≡ o → taker_at takers a.place ≡ q → IsJoining n (i + 1) new after
@@ -379,6 +379,6 @@ leads_led : (n : NetLists) (leaders : List ℕ) (takers : List (Option ℕ)) (x 
 leads_led n leaders takers x y [] j e = ap (leader_of leaders) e
 leads_led n leaders takers x y (z ∷ path) j e = conflict_led n leaders takers x z j e.0 ∙ leads_led n leaders takers z y path j e.1
 
--- in the end, signals that a list joins have one leader
+-- in the end, joined signals have one leader
 pub joined_led : (n : NetLists) (leaders : List ℕ) (takers : List (Option ℕ)) (x y : ℕ) → IsJoining n (length n.arcs) leaders takers → AreJoined n x y → leader_of leaders x ≡ leader_of leaders y
 joined_led n leaders takers x y j joins = leads_led n leaders takers x y joins.path j joins.leads

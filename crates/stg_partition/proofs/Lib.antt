@@ -1,8 +1,8 @@
 pub mod Examples
-pub mod Rows
+pub mod GroupExamples
 pub mod Conflicts
 pub mod Leading
-pub mod Marking
+pub mod FlagLemmas
 pub mod Numbers
 pub mod Grouping
 pub mod Unique

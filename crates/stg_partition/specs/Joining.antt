@@ -12,12 +12,12 @@ abbrev pub own_taker : NetLists → NetArc → Option ℕ
 own_taker n a = if not a.into && is_driven_at n.signals (signal_of n a) then Some (signal_of n a) else None
 
 -- the leader in place of an old one, where one number is put for another
-abbrev pub relabelled : ℕ → ℕ → ℕ → ℕ
-relabelled from to leader = if leader == from then to else leader
+abbrev pub relabelled_leader : ℕ → ℕ → ℕ → ℕ
+relabelled_leader from to leader = if leader == from then to else leader
 
 -- the leader in place of an old one, after two signals are joined
-abbrev pub joined : List ℕ → ℕ → ℕ → ℕ → ℕ
-joined leaders x y leader = relabelled (max (slice_index leaders x) (slice_index leaders y)) (min (slice_index leaders x) (slice_index leaders y)) leader
+abbrev pub merged_leader : List ℕ → ℕ → ℕ → ℕ → ℕ
+merged_leader leaders x y leader = relabelled_leader (max (slice_index leaders x) (slice_index leaders y)) (min (slice_index leaders x) (slice_index leaders y)) leader
 
 -- the taker of the place of that number
 abbrev pub taker_at : List (Option ℕ) → ℕ → Option ℕ
@@ -35,7 +35,7 @@ with_taker (Some s) p takers = with_first (taker_at takers p) s p takers
 
 -- the leader in place of an old one, after an arc with this own taker at a place with that taker
 abbrev pub new_leader : Option ℕ → Option ℕ → List ℕ → ℕ → ℕ
-new_leader (Some s) (Some t) leaders leader = joined leaders t s leader
+new_leader (Some s) (Some t) leaders leader = merged_leader leaders t s leader
 new_leader (Some s) None leaders leader = leader
 new_leader None taker leaders leader = leader
 
@@ -73,35 +73,35 @@ abbrev pub is_led : List ℕ → ℕ → Option ℕ → Bool
 is_led leaders leader None = false
 is_led leaders leader (Some s) = slice_index leaders s == leader
 
--- whether the arc shows the signal to the group of the leader
-abbrev pub shows : NetLists → List ℕ → List (Option ℕ) → ℕ → ℕ → NetArc → Bool
-shows n leaders takers leader s a = is_led leaders leader (taker_at takers a.place) && (signal_of n a == s)
+-- whether the arc brings the signal to the group of the leader
+abbrev pub brings : NetLists → List ℕ → List (Option ℕ) → ℕ → ℕ → NetArc → Bool
+brings n leaders takers leader s a = is_led leaders leader (taker_at takers a.place) && (signal_of n a == s)
 
--- whether an arc of the net shows the signal to the group of the leader
-abbrev pub is_seen : NetLists → List ℕ → List (Option ℕ) → ℕ → ℕ → Bool
-is_seen n leaders takers leader s = list_any (shows n leaders takers leader s) n.arcs
+-- whether an arc of the net brings the signal to the group of the leader
+abbrev pub is_brought : NetLists → List ℕ → List (Option ℕ) → ℕ → ℕ → Bool
+is_brought n leaders takers leader s = list_any (brings n leaders takers leader s) n.arcs
 
--- the mark of a leader and a signal, in rows of that size
-abbrev pub is_marked : ℕ → List Bool → ℕ → ℕ → Bool
-is_marked size marks leader s = slice_index_or marks (leader * size + s) false
+-- the flag of a leader and a signal, where each leader has so many
+abbrev pub is_flagged : ℕ → List Bool → ℕ → ℕ → Bool
+is_flagged size flags leader s = slice_index_or flags (leader * size + s) false
 
--- the new marks are the old ones and what is seen
-abbrev pub IsMarkedWith : ℕ → (ℕ → ℕ → Bool) → List Bool → List Bool → Type 0
-IsMarkedWith size sees old new = (l s : ℕ) → s < size → is_marked size new l s ≡ (is_marked size old l s || sees l s)
+-- the new flags are the old ones and those of what is brought
+abbrev pub AreFlaggedWith : ℕ → (ℕ → ℕ → Bool) → List Bool → List Bool → Type 0
+AreFlaggedWith size brought old new = (l s : ℕ) → s < size → is_flagged size new l s ≡ (is_flagged size old l s || brought l s)
 
--- what the marks of a net tell
-abbrev pub AreMarks : NetLists → List ℕ → List (Option ℕ) → List Bool → Type 0
-AreMarks n leaders takers marks = (l s : ℕ) → s < length leaders → is_marked (length leaders) marks l s ≡ is_seen n leaders takers l s
+-- the flags tell what the arcs of the net bring
+abbrev pub AreFlags : NetLists → List ℕ → List (Option ℕ) → List Bool → Type 0
+AreFlags n leaders takers flags = (l s : ℕ) → s < length leaders → is_flagged (length leaders) flags l s ≡ is_brought n leaders takers l s
 
--- whether the group of the leader knows the signal, as the marks tell
+-- whether the group of the leader knows the signal, as the flags tell
 abbrev pub is_known_by : List ℕ → List Bool → ℕ → ℕ → Bool
-is_known_by leaders marks leader s = (slice_index leaders s == leader) || is_marked (length leaders) marks leader s
+is_known_by leaders flags leader s = (slice_index leaders s == leader) || is_flagged (length leaders) flags leader s
 
--- the group of the leader, which knows what the marks tell
+-- the group of the leader, which knows what the flags tell
 abbrev pub group_of : List ℕ → List Bool → ℕ → Group
-group_of leaders marks leader = record {
+group_of leaders flags leader = record {
   own = numbers_with (slice_index leaders) (length leaders) leader;
-  known = numbers_where (is_known_by leaders marks leader) (length leaders);
+  known = numbers_where (is_known_by leaders flags leader) (length leaders);
 }
 
 -- whether the signal is an output or internal and its own leader
@@ -110,8 +110,8 @@ is_leader n leaders s = is_driven_at n.signals s && (slice_index leaders s == s)
 
 -- the group of that signal, where it leads one
 abbrev pub groups_at : NetLists → List ℕ → List Bool → ℕ → List Group
-groups_at n leaders marks s = map (group_of leaders marks) (only_where (is_leader n leaders) s)
+groups_at n leaders flags s = map (group_of leaders flags) (only_where (is_leader n leaders) s)
 
 -- the groups of the leaders below a number, in ascending order
 abbrev pub groups_below : NetLists → List ℕ → List Bool → ℕ → List Group
-groups_below n leaders marks k = map (group_of leaders marks) (numbers_where (is_leader n leaders) k)
+groups_below n leaders flags k = map (group_of leaders flags) (numbers_where (is_leader n leaders) k)

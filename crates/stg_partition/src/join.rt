@@ -3,14 +3,14 @@
 ghost use Rattle.std.specs.Prelude.{◌≡◌, ◌<◌, length, All, IfOk, IfSome};
 ghost use Rattle.stg_laws.specs.Stgs.{is_driven};
 ghost use Rattle.stg_laws.specs.Groups.{signal_of, is_driven_at};
-ghost use Rattle.stg_partition.specs.Joining.{own_taker, relabelled, joined, with_taker, leader_after, AreChanged, IsJoining};
+ghost use Rattle.stg_partition.specs.Joining.{own_taker, relabelled_leader, merged_leader, with_taker, leader_after, AreChanged, IsJoining};
 
 use std::alloc::Global;
 use stg_net::{Kind, Net, NetArc, NoMemory, numbers_below};
 
 /// The leader of each signal, and the taker of each place.
 #[derive(Debug, Drop)]
-pub(crate) struct Joined {
+pub(crate) struct LeadersAndTakers {
     pub leaders: Vec<u32>,
     pub takers: Vec<Option<u32>>,
 }
@@ -63,7 +63,7 @@ fn own_taker(net: &Net, arc: NetArc) -> Option<u32>
 }
 
 fn relabel(leaders: &mut [u32], from: u32, to: u32)
-    ensures { AreChanged (relabelled from to) leaders.old leaders.new }
+    ensures { AreChanged (relabelled_leader from to) leaders.old leaders.new }
 {
     for leader in leaders.iter_mut() {
         if *leader == from {
@@ -75,7 +75,7 @@ fn relabel(leaders: &mut [u32], from: u32, to: u32)
 fn join(leaders: &mut [u32], x: u32, y: u32)
     requires x { x < length leaders.old }
     requires y { y < length leaders.old }
-    ensures { AreChanged (joined leaders.old x y) leaders.old leaders.new }
+    ensures { AreChanged (merged_leader leaders.old x y) leaders.old leaders.new }
 {
     let one = leaders[x as usize];
     let other = leaders[y as usize];
@@ -112,11 +112,11 @@ fn join_all(net: &Net, leaders: &mut [u32], takers: &mut [Option<u32>])
 
 /// Finds the leader of each signal, and for each place a signal that takes from it, if there is one
 /// that is an output or internal.
-pub(crate) fn join_signals(alloc: Global, net: &Net) -> Result<Joined, NoMemory>
+pub(crate) fn join_signals(alloc: Global, net: &Net) -> Result<LeadersAndTakers, NoMemory>
     ensures { IfOk result (λ j. IsJoining net.now (length net.now.arcs) j.leaders.items j.takers.items) }
 {
     let mut leaders = numbers_below(alloc, net.signals().len() as u32)?.into_vec();
     let mut takers = no_takers(alloc, net.tokens().len())?;
     join_all(net, leaders.as_mut_slice(), takers.as_mut_slice());
-    Ok(Joined { leaders, takers })
+    Ok(LeadersAndTakers { leaders, takers })
 }

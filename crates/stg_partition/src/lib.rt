@@ -1,9 +1,9 @@
 //! Groups of signals, one for each component of a decomposition.
 #![tactic(auto)]
 
+mod flags;
 mod group;
 mod join;
-mod marks;
 mod plain;
 #[cfg(test)]
 mod tests;

@@ -6,8 +6,8 @@ ghost use Rattle.stg_partition.specs.Joining.{is_known_by, group_of, is_leader, 
 ghost use Rattle.stg_partition.specs.PlainGroups.{ArePlainGroups, AreClosed, HasOneGrouping};
 
 use crate::Group;
+use crate::flags::{flag_all, flag_index};
 use crate::join::{is_driven_at, join_signals};
-use crate::marks::{cell, mark_all};
 use std::alloc::Global;
 use stg_net::{Net, NoMemory, Nums, Seq, Spec};
 
@@ -24,25 +24,25 @@ fn list_own(alloc: Global, leaders: &[u32], leader: u32) -> Result<Nums, NoMemor
     Ok(own)
 }
 
-fn knows(leaders: &[u32], marks: &[bool], leader: u32, s: u32) -> bool
+fn knows(leaders: &[u32], flags: &[bool], leader: u32, s: u32) -> bool
     requires few { length leaders.now ≤ 250 }
     requires leader { leader < length leaders.now }
     requires signal { s < length leaders.now }
-    requires marks { length marks.now ≡ length leaders.now * length leaders.now }
-    ensures { result ≡ is_known_by leaders.now marks.now leader s }
+    requires flags { length flags.now ≡ length leaders.now * length leaders.now }
+    ensures { result ≡ is_known_by leaders.now flags.now leader s }
 {
-    leaders[s as usize] == leader || marks[cell(leaders.len(), leader, s)]
+    leaders[s as usize] == leader || flags[flag_index(leaders.len(), leader, s)]
 }
 
-fn list_known(alloc: Global, leaders: &[u32], marks: &[bool], leader: u32) -> Result<Nums, NoMemory>
+fn list_known(alloc: Global, leaders: &[u32], flags: &[bool], leader: u32) -> Result<Nums, NoMemory>
     requires few { length leaders.now ≤ 250 }
     requires leader { leader < length leaders.now }
-    requires marks { length marks.now ≡ length leaders.now * length leaders.now }
-    ensures { IfOk result (λ known. known ≡ (group_of leaders.now marks.now leader).known) }
+    requires flags { length flags.now ≡ length leaders.now * length leaders.now }
+    ensures { IfOk result (λ known. known ≡ (group_of leaders.now flags.now leader).known) }
 {
     let mut known = Seq::new(alloc);
     for s in 0..leaders.len() as u32 {
-        if knows(leaders, marks, leader, s) {
+        if knows(leaders, flags, leader, s) {
             known.push(s)?;
         }
     }
@@ -52,16 +52,16 @@ fn list_known(alloc: Global, leaders: &[u32], marks: &[bool], leader: u32) -> Re
 fn make_group(
     alloc: Global,
     leaders: &[u32],
-    marks: &[bool],
+    flags: &[bool],
     leader: u32,
 ) -> Result<Group, NoMemory>
     requires few { length leaders.now ≤ 250 }
     requires leader { leader < length leaders.now }
-    requires marks { length marks.now ≡ length leaders.now * length leaders.now }
-    ensures { IfOk result (λ group. group ≡ group_of leaders.now marks.now leader) }
+    requires flags { length flags.now ≡ length leaders.now * length leaders.now }
+    ensures { IfOk result (λ group. group ≡ group_of leaders.now flags.now leader) }
 {
     let own = list_own(alloc, leaders, leader)?;
-    let known = list_known(alloc, leaders, marks, leader)?;
+    let known = list_known(alloc, leaders, flags, leader)?;
     Ok(Group { own, known })
 }
 
@@ -77,18 +77,18 @@ fn push_group(
     alloc: Global,
     net: &Net,
     leaders: &[u32],
-    marks: &[bool],
+    flags: &[bool],
     s: u32,
     groups: &mut Seq<Group>,
 ) -> Result<(), NoMemory>
     requires signals { length leaders.now ≡ length net.now.signals }
     requires few { length leaders.now ≤ 250 }
     requires signal { s < length leaders.now }
-    requires marks { length marks.now ≡ length leaders.now * length leaders.now }
-    ensures { OnOk result (groups.new ≡ groups.old ++ groups_at net.now leaders.now marks.now s) }
+    requires flags { length flags.now ≡ length leaders.now * length leaders.now }
+    ensures { OnOk result (groups.new ≡ groups.old ++ groups_at net.now leaders.now flags.now s) }
 {
     if leads(net, leaders, s) {
-        groups.push(make_group(alloc, leaders, marks, s)?)?;
+        groups.push(make_group(alloc, leaders, flags, s)?)?;
     }
     Ok(())
 }
@@ -97,16 +97,16 @@ fn list_groups(
     alloc: Global,
     net: &Net,
     leaders: &[u32],
-    marks: &[bool],
+    flags: &[bool],
 ) -> Result<Seq<Group>, NoMemory>
     requires signals { length leaders.now ≡ length net.now.signals }
     requires few { length leaders.now ≤ 250 }
-    requires marks { length marks.now ≡ length leaders.now * length leaders.now }
-    ensures { IfOk result (λ groups. groups ≡ groups_below net.now leaders.now marks.now (length leaders.now)) }
+    requires flags { length flags.now ≡ length leaders.now * length leaders.now }
+    ensures { IfOk result (λ groups. groups ≡ groups_below net.now leaders.now flags.now (length leaders.now)) }
 {
     let mut groups = Seq::new(alloc);
     for s in 0..leaders.len() as u32 {
-        push_group(alloc, net, leaders, marks, s, &mut groups)?;
+        push_group(alloc, net, leaders, flags, s, &mut groups)?;
     }
     Ok(groups)
 }
@@ -118,9 +118,9 @@ pub fn plain_groups(alloc: Global, spec: &Spec) -> Result<Seq<Group>, NoMemory>
     ensures closed { IfOk result (λ groups. AreClosed spec.now.net groups) }
 {
     let net = spec.net();
-    let joined = join_signals(alloc, net)?;
-    let marks = mark_all(alloc, net, &joined)?;
-    list_groups(alloc, net, joined.leaders.as_slice(), marks.as_slice())
+    let found = join_signals(alloc, net)?;
+    let flags = flag_all(alloc, net, &found)?;
+    list_groups(alloc, net, found.leaders.as_slice(), flags.as_slice())
 }
 
 /// A net has one list of plain groups.

@@ -9,42 +9,42 @@ use Rattle.stg_net.specs.declared.limits.Limits.{Limits}
 use Rattle.stg_net.specs.Net.{NetLists, IsNet, IsWithin}
 use Rattle.stg_net.specs.Graph.{takes, tokens_at}
 use Rattle.stg_net.specs.Run.{IsEnabled, fired}
-use Rattle.stg_net.specs.Initial.{goes, joins, weight_of, graph_of}
-use Rattle.stg_net.proofs.Weights.{Joins, Joint, goes_same, goes_itself, joins_parts, joins_whole, share, share_here, share_none, weight_of-cons, weight_of-arc, weight_of-joint, takes-graph_of, gives-graph_of, tokens_at-initial, full_name_at-graph_of}
-use Rattle.stg_token.specs.Pass.{goes_between, is_held, with_taken, with_given}
+use Rattle.stg_net.specs.Initial.{goes, connects, weight_of, graph_of}
+use Rattle.stg_net.proofs.Weights.{Connects, ConnectingArc, goes_same, goes_itself, connects_parts, connects_whole, share, share_here, share_none, weight_of-cons, weight_of-arc, weight_of-connecting, takes-graph_of, gives-graph_of, tokens_at-initial, full_name_at-graph_of}
+use Rattle.stg_token.specs.Pass.{connects_trans, is_held, with_taken, with_given}
 
-goes_joins : (t : ℕ) (into : Bool) (a : NetArc) → goes_between t into a ≡ true → joins into t a.place a ≡ true
-goes_joins t into a e =
+connects_own_place : (t : ℕ) (into : Bool) (a : NetArc) → connects_trans t into a ≡ true → connects into t a.place a ≡ true
+connects_own_place t into a e =
     let parts = and_parts (a.trans == t) (goes into a.into) e in
-    joins_whole into t a.place a (record { trans_is = eqb-true a.trans t parts.0; place_is = refl; goes_is = goes_same into a.into parts.1 })
+    connects_whole into t a.place a (record { trans_is = eqb-true a.trans t parts.0; place_is = refl; goes_is = goes_same into a.into parts.1 })
 
-joins_goes : (t p : ℕ) (into : Bool) (a : NetArc) → Joins into t p a → goes_between t into a ≡ true
-joins_goes t p into a j = rw (eq-eqb a.trans t j.trans_is) (ap (goes into) j.goes_is ∙ goes_itself into)
+connects_its_trans : (t p : ℕ) (into : Bool) (a : NetArc) → Connects into t p a → connects_trans t into a ≡ true
+connects_its_trans t p into a j = rw (eq-eqb a.trans t j.trans_is) (ap (goes into) j.goes_is ∙ goes_itself into)
 
-not_joins : (t p : ℕ) (into : Bool) (a : NetArc) → goes_between t into a ≡ false → joins into t p a ≡ false
-not_joins t p into a e = false_from_ne_true _ (λ f. false≢true (sym e ∙ joins_goes t p into a (joins_parts into t p a f)))
+not_connects : (t p : ℕ) (into : Bool) (a : NetArc) → connects_trans t into a ≡ false → connects into t p a ≡ false
+not_connects t p into a e = false_from_ne_true _ (λ f. false≢true (sym e ∙ connects_its_trans t p into a (connects_parts into t p a f)))
 
 -- the list after the place of an arc of t has changed by f
 abbrev changed : (ℕ → ℕ → ℕ) → ℕ → Bool → NetArc → List ℕ → List ℕ
-changed f t into a m = cond (goes_between t into a) (set m a.place (f (get_or m a.place 0) a.weight)) m
+changed f t into a m = cond (connects_trans t into a) (set m a.place (f (get_or m a.place 0) a.weight)) m
 
 -- an arc changes a place by what it adds to the place's weight
 changed_at : (f : ℕ → ℕ → ℕ) → ((x : ℕ) → f x 0 ≡ x) → (t : ℕ) (into : Bool) (a : NetArc) (m : List ℕ) (p : ℕ) → a.place < length m
     → get_or (changed f t into a m) p 0 ≡ f (get_or m p 0) (share into t p a)
-changed_at f unit t into a m p inside = elim (cases_Bool (goes_between t into a)) [
-  | inr e ↦ rw e (sym (ap (f (get_or m p 0)) (share_none into t p a (not_joins t p into a e)) ∙ unit (get_or m p 0)))
+changed_at f unit t into a m p inside = elim (cases_Bool (connects_trans t into a)) [
+  | inr e ↦ rw e (sym (ap (f (get_or m p 0)) (share_none into t p a (not_connects t p into a e)) ∙ unit (get_or m p 0)))
   | inl e ↦ rw e (elim (cases_eq p a.place) [
     | inl same ↦
         let P : ℕ → Type 0 = λ q. get_or (set m a.place (f (get_or m a.place 0) a.weight)) q 0 ≡ f (get_or m q 0) (share into t q a) in
-        subst P (sym same) (get_or-set_same m a.place (f (get_or m a.place 0) a.weight) 0 inside ∙ ap (f (get_or m a.place 0)) (sym (share_here into t a.place a (goes_joins t into a e))))
+        subst P (sym same) (get_or-set_same m a.place (f (get_or m a.place 0) a.weight) 0 inside ∙ ap (f (get_or m a.place 0)) (sym (share_here into t a.place a (connects_own_place t into a e))))
     | inr other ↦
         get_or-set_other m a.place p (f (get_or m a.place 0) a.weight) 0 other
-        ∙ sym (ap (f (get_or m p 0)) (share_none into t p a (false_from_ne_true _ (λ j. other (sym (joins_parts into t p a j).place_is)))) ∙ unit (get_or m p 0))
+        ∙ sym (ap (f (get_or m p 0)) (share_none into t p a (false_from_ne_true _ (λ j. other (sym (connects_parts into t p a j).place_is)))) ∙ unit (get_or m p 0))
   ])
 ]
 
 length-changed : (f : ℕ → ℕ → ℕ) (t : ℕ) (into : Bool) (a : NetArc) (m : List ℕ) → length (changed f t into a m) ≡ length m
-length-changed f t into a m = elim (cases_Bool (goes_between t into a)) [
+length-changed f t into a m = elim (cases_Bool (connects_trans t into a)) [
   | inl e ↦ rw e (length-set m a.place (f (get_or m a.place 0) a.weight))
   | inr e ↦ rw e refl
 ]
@@ -65,18 +65,18 @@ length-given t a m = length-changed (λ x y. x + y) t true a m
 enabled_holds : (n : NetLists) (m : List ℕ) (t i : ℕ) (d : NetArc) → IsNet n → i < length n.arcs → IsEnabled (graph_of n) (λ p. get_or m p 0) t → is_held m t (get_or n.arcs i d) ≡ true
 enabled_holds n m t i d net inside enabled = holds (get_or n.arcs i d) (weight_of-arc false t (get_or n.arcs i d).place n.arcs i d net.ordered inside)
   where
-    holds : (a : NetArc) → (joins false t a.place a ≡ true → weight_of n.arcs false t a.place ≡ a.weight) → is_held m t a ≡ true
-    holds a sole = elim (cases_Bool (goes_between t false a)) [
+    holds : (a : NetArc) → (connects false t a.place a ≡ true → weight_of n.arcs false t a.place ≡ a.weight) → is_held m t a ≡ true
+    holds a sole = elim (cases_Bool (connects_trans t false a)) [
       | inr e ↦ rw e refl
-      | inl e ↦ rw e (le-leb a.weight (get_or m a.place 0) (omega (arith, enabled.covered a.place, takes-graph_of n t a.place net, sole (goes_joins t false a e))))
+      | inl e ↦ rw e (le-leb a.weight (get_or m a.place 0) (omega (arith, enabled.covered a.place, takes-graph_of n t a.place net, sole (connects_own_place t false a e))))
     ]
 
 pub unheld : (n : NetLists) (m : List ℕ) (t i : ℕ) (d : NetArc) → IsNet n → i < length n.arcs → is_held m t (get_or n.arcs i d) ≡ false → IsEnabled (graph_of n) (λ p. get_or m p 0) t → ⊥
 unheld n m t i d net inside e enabled = false≢true (sym e ∙ enabled_holds n m t i d net inside enabled)
 
-held_weight : (m : List ℕ) (t p : ℕ) (a : NetArc) → Joins false t p a → is_held m t a ≡ true → a.weight ≤ get_or m p 0
+held_weight : (m : List ℕ) (t p : ℕ) (a : NetArc) → Connects false t p a → is_held m t a ≡ true → a.weight ≤ get_or m p 0
 held_weight m t p a j held =
-    let e = joins_goes t p false a j in
+    let e = connects_its_trans t p false a j in
     let le : nat_le a.weight (get_or m a.place 0) ≡ true = rw e at held in
     let P : ℕ → Type 0 = λ q. a.weight ≤ get_or m q 0 in
     subst P j.place_is (leb-true a.weight (get_or m a.place 0) le)
@@ -87,16 +87,16 @@ held_enabled n m t net there held = record {
   live = ap is_some (full_name_at-graph_of n t there);
   covered = λ p. elim (cases_lt 0 (weight_of n.arcs false t p)) [
     | inr nothing ↦ omega (arith, nothing, takes-graph_of n t p net)
-    | inl some ↦ covered p (weight_of-joint false t p n.arcs some)
+    | inl some ↦ covered p (weight_of-connecting false t p n.arcs some)
   ];
 }
   where
-    covered : (p : ℕ) → Joint n.arcs false t p → takes (graph_of n) t p ≤ get_or m p 0
+    covered : (p : ℕ) → ConnectingArc n.arcs false t p → takes (graph_of n) t p ≤ get_or m p 0
     covered p j =
         let P : NetArc → Type 0 = λ a. is_held m t a ≡ true in
         let Q : NetArc → Type 0 = λ a. weight_of n.arcs false t p ≡ a.weight in
-        let sole = subst Q (j.arc_is j.arc) (weight_of-arc false t p n.arcs j.at j.arc net.ordered j.inside (ap (joins false t p) (j.arc_is j.arc) ∙ joins_whole false t p j.arc j.joins_both)) in
-        omega (arith, takes-graph_of n t p net, sole, held_weight m t p j.arc j.joins_both (subst P (j.arc_is j.arc) (held j.at j.arc j.inside)))
+        let sole = subst Q (j.arc_is j.arc) (weight_of-arc false t p n.arcs j.at j.arc net.ordered j.inside (ap (connects false t p) (j.arc_is j.arc) ∙ connects_whole false t p j.arc j.connects_both)) in
+        omega (arith, takes-graph_of n t p net, sole, held_weight m t p j.arc j.connects_both (subst P (j.arc_is j.arc) (held j.at j.arc j.inside)))
 
 -- the marking of the net's tokens
 pub start_tokens : (n : NetLists) (m : List ℕ) → m ≡ n.tokens → (p : ℕ) → get_or m p 0 ≡ tokens_at (graph_of n) p
@@ -147,13 +147,13 @@ fits_within l n m t b net within small p = omega (arith, takes-graph_of n t p ne
       | inr past ↦ omega (arith, get_or_past m p 0 past)
     ]
 
-    joint_small : Joint n.arcs true t p → weight_of n.arcs true t p ≤ l.weight
-    joint_small j =
-        let e = ap (joins true t p) (j.arc_is j.arc) ∙ joins_whole true t p j.arc j.joins_both in
+    connecting_small : ConnectingArc n.arcs true t p → weight_of n.arcs true t p ≤ l.weight
+    connecting_small j =
+        let e = ap (connects true t p) (j.arc_is j.arc) ∙ connects_whole true t p j.arc j.connects_both in
         omega (arith, weight_of-arc true t p n.arcs j.at j.arc net.ordered j.inside e, within.weights j.at j.arc j.inside)
 
     given_small : weight_of n.arcs true t p ≤ l.weight
     given_small = elim (cases_lt 0 (weight_of n.arcs true t p)) [
-      | inl some ↦ joint_small (weight_of-joint true t p n.arcs some)
+      | inl some ↦ connecting_small (weight_of-connecting true t p n.arcs some)
       | inr nothing ↦ omega (arith, nothing)
     ]

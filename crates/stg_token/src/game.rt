@@ -5,7 +5,7 @@ ghost use Rattle.stg_net.specs.Graph.{tokens_at};
 ghost use Rattle.stg_net.specs.Run.{IsEnabled, fired};
 ghost use Rattle.stg_net.specs.Initial.{graph_of, weight_of};
 ghost use Rattle.stg_net.specs.declared.arc.NetArc.{NetArc};
-ghost use Rattle.stg_token.specs.Pass.{goes_between, is_held, with_taken, with_given};
+ghost use Rattle.stg_token.specs.Pass.{connects_trans, is_held, with_taken, with_given};
 
 use std::alloc::Global;
 use stg_net::{Net, NetArc, NoMemory, Nums, Seq};
@@ -18,8 +18,8 @@ pub fn start(alloc: Global, net: &Net) -> Result<Nums, NoMemory>
     Seq::from_slice(alloc, net.tokens())
 }
 
-fn is_arc_of(arc: NetArc, t: u32, into: bool) -> bool
-    ensures { result ≡ goes_between t into arc }
+fn connects_trans(arc: NetArc, t: u32, into: bool) -> bool
+    ensures { result ≡ connects_trans t into arc }
 {
     arc.trans == t && arc.into == into
 }
@@ -28,7 +28,7 @@ fn holds(m: &Nums, t: u32, arc: NetArc) -> bool
     requires { arc.place < length m.now }
     ensures { result ≡ is_held m.now t arc }
 {
-    !is_arc_of(arc, t, false) || arc.weight <= m.as_slice()[arc.place as usize]
+    !connects_trans(arc, t, false) || arc.weight <= m.as_slice()[arc.place as usize]
 }
 
 /// Whether the transition of that number can fire at the marking.
@@ -50,7 +50,7 @@ fn take(m: &mut Nums, t: u32, arc: NetArc)
     requires held { is_held m.old t arc ≡ true }
     ensures { m.new ≡ with_taken t arc m.old }
 {
-    if is_arc_of(arc, t, false) {
+    if connects_trans(arc, t, false) {
         let place = arc.place as usize;
         m.set(place, m.as_slice()[place] - arc.weight);
     }
@@ -61,7 +61,7 @@ fn give(m: &mut Nums, t: u32, arc: NetArc)
     requires fits { slice_index m.old arc.place + weight_of (arc ∷ []) true t arc.place < 2 ^ 32 }
     ensures { m.new ≡ with_given t arc m.old }
 {
-    if is_arc_of(arc, t, true) {
+    if connects_trans(arc, t, true) {
         let place = arc.place as usize;
         m.set(place, m.as_slice()[place] + arc.weight);
     }

@@ -7,7 +7,7 @@ pub returns-then-words-eq1 : goal.returns-then-words-eq1
 returns-then-words-eq1 c = c.named_by.ensures ∙ named-one c.args.signals.now c.args.words.now _ (omega arith)
 
 pub returns-then-words-eq5 : goal.returns-then-words-eq5
-returns-then-words-eq5 c = c.between_both.ensures ∙ (λ j. between_both (c.trans_of.ensures j) (c.trans_of-then-words-eq5.ensures j)) ∙ named-five c.args.signals.now c.args.words.now _ (omega arith)
+returns-then-words-eq5 c = c.between_both.ensures ∙ (λ j. between_both (c.trans_of_word.ensures j) (c.trans_of_word-then-words-eq5.ensures j)) ∙ named-five c.args.signals.now c.args.words.now _ (omega arith)
 
 pub returns-else-words-eq5 : goal.returns-else-words-eq5
 returns-else-words-eq5 c = named-none c.args.signals.now c.args.words.now (omega arith) (omega arith)

@@ -1,7 +1,7 @@
 use Rattle.std.proofs.Common.{◌≡◌, ◌++◌, map, drop}
 use Rattle.astg_read.specs.Reading.{place_name}
-use Rattle.astg_read.specs.Shown.{shown_place}
+use Rattle.astg_read.specs.Views.{place_view}
 use Rattle.astg_read.proofs.finish.place_names.Given as goal
 
 abbrev pub invariant-loop-place : goal.invariant-loop-place
-invariant-loop-place l = l.names ++ map (place_name l.trans.keys) (map shown_place (drop l.place-index l.places)) ≡ map (place_name l.trans.keys) (map shown_place l.places)
+invariant-loop-place l = l.names ++ map (place_name l.trans.keys) (map place_view (drop l.place-index l.places)) ≡ map (place_name l.trans.keys) (map place_view l.places)

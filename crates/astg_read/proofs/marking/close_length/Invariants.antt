@@ -1,7 +1,7 @@
 use Rattle.std.proofs.Common.{◌≡◌, ◌+◌, drop}
 use Rattle.astg_read.specs.Markings.{close_length}
-use Rattle.astg_read.specs.Shown.{shown_words}
+use Rattle.astg_read.specs.Views.{slices_view}
 use Rattle.astg_read.proofs.marking.close_length.Given as goal
 
 abbrev pub invariant-loop-i : goal.invariant-loop-i
-invariant-loop-i l = l.i + close_length (shown_words (drop l.i l.words)) ≡ close_length (shown_words l.words)
+invariant-loop-i l = l.i + close_length (slices_view (drop l.i l.words)) ≡ close_length (slices_view l.words)

@@ -1,4 +1,4 @@
-use Rattle.astg_read.proofs.SettledLemmas.{close-found}
+use Rattle.astg_read.proofs.MarkingCheckLemmas.{close-found}
 use Rattle.astg_read.proofs.marking.close_length_after.Goals as goal
 
 pub returns-clause-value : goal.returns-clause-value

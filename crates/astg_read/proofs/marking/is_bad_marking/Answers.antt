@@ -2,10 +2,10 @@ use Rattle.std.proofs.Common.{ap, sym, subst, ◌∙◌, ◌-◌, [], arith, tak
 use Rattle.std.proofs.lemmas.Bool.{eqb-false, lt-ltb, le-ltb}
 use Rattle.std.proofs.lemmas.List.{take-map}
 use Rattle.astg_read.specs.Markings.{entries_after, has_bad_entry}
-use Rattle.astg_read.specs.Settled.{IsSettled}
+use Rattle.astg_read.specs.MarkingCheck.{IsSettled}
 use Rattle.astg_read.specs.Header.{without_dummies}
 use Rattle.astg_read.proofs.CloseLemmas.{followed, not-followed}
-use Rattle.astg_read.proofs.SettledLemmas.{before-shown, within-close, within-rest}
+use Rattle.astg_read.proofs.MarkingCheckLemmas.{before-slices_view, within-close, within-rest}
 use Rattle.astg_read.proofs.marking.is_bad_marking.Goals as goal
 
 pub close_length_after-count-requires-clause-least : goal.close_length_after-count-requires-clause-least
@@ -23,7 +23,7 @@ returns-then-rest-count-gt1-clause-bad c =
 
 pub has_bad_entry-requires-clause-settled : goal.has_bad_entry-requires-clause-settled
 has_bad_entry-requires-clause-settled c =
-    subst (IsSettled c.args.most (without_dummies c.args.signals.now) c.args.graph.now.places c.args.settled.now) (sym (before-shown c.args.words.now c.close_length_after-count.result c.close_length_after-count.ensures.value)) c.requires.settled
+    subst (IsSettled c.args.most (without_dummies c.args.signals.now) c.args.graph.now.places c.args.settled.now) (sym (before-slices_view c.args.words.now c.close_length_after-count.result c.close_length_after-count.ensures.value)) c.requires.settled
 
 pub returns-clause-bad : goal.returns-clause-bad
 returns-clause-bad c =
@@ -38,4 +38,4 @@ returns-clause-bad c =
 
 pub returns-clause-settled : goal.returns-clause-settled
 returns-clause-settled c =
-    subst (IsSettled c.args.most (without_dummies c.args.signals.now) c.args.graph.now.places c.has_bad_entry.new.self) (before-shown c.args.words.now c.close_length_after-count.result c.close_length_after-count.ensures.value) c.in_ok-is_bad.ensures.settled
+    subst (IsSettled c.args.most (without_dummies c.args.signals.now) c.args.graph.now.places c.has_bad_entry.new.self) (before-slices_view c.args.words.now c.close_length_after-count.result c.close_length_after-count.ensures.value) c.in_ok-is_bad.ensures.settled

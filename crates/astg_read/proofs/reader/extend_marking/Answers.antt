@@ -2,9 +2,9 @@ use Rattle.std.proofs.Common.{sym, subst, drop}
 use Rattle.astg_read.specs.Header.{without_dummies}
 use Rattle.astg_read.specs.Markings.{before_close}
 use Rattle.astg_read.specs.Rows.{Row}
-use Rattle.astg_read.specs.Settled.{IsSettled}
-use Rattle.astg_read.specs.Shown.{texts}
-use Rattle.astg_read.proofs.SettledLemmas.{settled-grown}
+use Rattle.astg_read.specs.MarkingCheck.{IsSettled}
+use Rattle.astg_read.specs.Views.{texts}
+use Rattle.astg_read.proofs.MarkingCheckLemmas.{settled-grown}
 use Rattle.astg_read.proofs.reader.extend_marking.Goals as goal
 
 pub is_bad-requires-clause-settled : goal.is_bad-requires-clause-settled

@@ -5,4 +5,4 @@ use Rattle.astg_read.proofs.reader.has_too_many_arcs.Goals as goal
 pub returns : goal.returns
 returns c =
     let g = c.args.graph.now in
-    ap (nat_lt c.args.limits.now.arcs) c.arc_count.ensures ∙ arcs-over g.trans g.places g.pairs c.args.limits.now.arcs (omega arith)
+    ap (nat_lt c.args.limits.now.arcs) c.arc_count.ensures ∙ arcs-over g.trans g.places g.text_arcs c.args.limits.now.arcs (omega arith)

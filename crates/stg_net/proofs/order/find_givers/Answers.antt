@@ -3,7 +3,7 @@ use Rattle.std.proofs.lemmas.List.{at_drop_more}
 use Rattle.stg_net.specs.declared.arc.NetArc.{NetArc}
 use Rattle.stg_net.specs.Net.{IsArcOf}
 use Rattle.stg_net.specs.Ordered.{least_giver}
-use Rattle.stg_net.proofs.Givers.{length-lowered, givers_more}
+use Rattle.stg_net.proofs.Givers.{length-givers_after, givers_more}
 use Rattle.stg_net.proofs.order.find_givers.Goals as goal
 
 pub loop-arc-preserved : goal.loop-arc-preserved
@@ -16,7 +16,7 @@ loop-arc-preserved c =
     let net = c.arcs-arc-items.ensures.net in
     let sound = subst (All (IsArcOf (length c.args.net.now.tokens) (length c.args.net.now.trans))) (sym c.arcs-arc-items.ensures.arcs) net.arcs in
     let there : a.place < length keys = omega (arith, (sound i none c.loop-arc-test.true).place_there, c.loop-arc.invariant.long) in
-    let long : length c.lower.new.keys ≡ length keys = ap length c.lower.ensures ∙ length-lowered a keys in
+    let long : length c.lower.new.keys ≡ length keys = ap length c.lower.ensures ∙ length-givers_after a keys in
     record {
       long = long ∙ c.loop-arc.invariant.long;
       least =

@@ -3,4 +3,4 @@ use Rattle.stg_partition.specs.Joining.{groups_below}
 use Rattle.stg_partition.proofs.plain.list_groups.Given as goal
 
 abbrev pub invariant-loop-s : goal.invariant-loop-s
-invariant-loop-s l = l.groups ≡ groups_below l.net l.leaders l.marks l.s
+invariant-loop-s l = l.groups ≡ groups_below l.net l.leaders l.flags l.s

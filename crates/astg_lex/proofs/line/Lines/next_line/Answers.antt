@@ -2,7 +2,7 @@ use Rattle.std.proofs.Common.{◌≡◌, ◌∙◌, ◌+◌, ap, sym, arith, ◌
 use Rattle.std.specs.List.{list_all}
 use Rattle.astg_lex.specs.Lines.{may_stand}
 use Rattle.astg_lex.specs.Words.{words_at}
-use Rattle.astg_lex.specs.Lexing.{Lexing, Advances, shown}
+use Rattle.astg_lex.specs.Lexing.{Lexing, Advances, word_views}
 use Rattle.astg_lex.proofs.LineLemmas.{advances_over, take_rest}
 use Rattle.astg_lex.proofs.line.Lines.next_line.Goals as goal
 
@@ -16,4 +16,4 @@ returns-clause-line c =
     subst P c.self.view_is (advances_over old new rest c.line_length-count.result c.push_words.new.words whole c.after_line-self-inside.ensures.rest refl refl
     (grind arith) c.line_length-count.ensures.value
     (ap (λ code. not (list_all may_stand code)) (sym c.code_of-code.ensures.value) ∙ ap not (sym c.all_may_stand.ensures ∙ c.if-not-all_may_stand.false))
-    (c.in_ok-push_words.ensures ∙ ap (λ ws. shown ws ++ words_at c.self.inside.at c.code_of-code.result.now) c.new-words.ensures ∙ ap (λ code. words_at c.self.inside.at code) c.code_of-code.ensures.value))
+    (c.in_ok-push_words.ensures ∙ ap (λ ws. word_views ws ++ words_at c.self.inside.at c.code_of-code.result.now) c.new-words.ensures ∙ ap (λ code. words_at c.self.inside.at code) c.code_of-code.ensures.value))

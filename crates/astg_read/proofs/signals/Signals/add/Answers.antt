@@ -1,8 +1,8 @@
 use Rattle.std.proofs.Common.{[], ◌∷◌, ◌++◌, List, not, map, ap, sym, ◌∙◌}
 use Rattle.stg_net.specs.declared.signal.Signal.{Signal}
 use Rattle.astg_read.specs.Header.{same_name}
-use Rattle.astg_read.specs.Shown.{shown_signal}
-use Rattle.astg_read.proofs.Keyed.{entries-new, added-found, added-new}
+use Rattle.astg_read.specs.Views.{signal_view}
+use Rattle.astg_read.proofs.Keyed.{entries-new, with_new-found, with_new-new}
 use Rattle.astg_read.proofs.SignalLemmas.{found-signal, missing-signal}
 use Rattle.astg_read.proofs.signals.Signals.add.Goals as goal
 
@@ -12,7 +12,7 @@ returns-in-Some-clause-fresh c =
 
 pub returns-in-Some-clause-ok : goal.returns-in-Some-clause-ok
 returns-in-Some-clause-ok c =
-    added-found same_name c.args.self.now (record { name = c.args.name.now; kind = c.args.kind })
+    with_new-found same_name c.args.self.now (record { name = c.args.name.now; kind = c.args.kind })
     (found-signal c.args.name.now c.args.kind c.self.inside.kinds.entries c.args.self.now c.in-Some.field-0 c.self.view_is c.in-Some.ensures.index)
 
 pub returns-in_ok-insert-in-None-clause-fresh : goal.returns-in_ok-insert-in-None-clause-fresh
@@ -21,8 +21,8 @@ returns-in_ok-insert-in-None-clause-fresh c =
 
 pub returns-in_ok-insert-in-None-clause-ok : goal.returns-in_ok-insert-in-None-clause-ok
 returns-in_ok-insert-in-None-clause-ok c =
-    ap (map shown_signal) c.in_ok-insert-in-None.ensures.entries
-    ∙ entries-new _ shown_signal c.self.inside.kinds c.args.name c.args.kind (sym c.in-None.ensures.index)
+    ap (map signal_view) c.in_ok-insert-in-None.ensures.entries
+    ∙ entries-new _ signal_view c.self.inside.kinds c.args.name c.args.kind (sym c.in-None.ensures.index)
     ∙ ap (λ (ss : List Signal). ss ++ record { name = c.args.name.now; kind = c.args.kind } ∷ []) c.self.view_is
-    ∙ added-new same_name c.args.self.now (record { name = c.args.name.now; kind = c.args.kind })
+    ∙ with_new-new same_name c.args.self.now (record { name = c.args.name.now; kind = c.args.kind })
     (missing-signal c.args.name.now c.args.kind c.self.inside.kinds.entries c.args.self.now c.self.view_is c.in-None.ensures.index)
