@@ -3,7 +3,8 @@ use Rattle.std.proofs.Common.{◌≡◌, ◌+◌, ◌<◌, ◌==◌, ℕ, suc, L
 use Rattle.std.proofs.lemmas.List.{take-append-drop}
 use Rattle.astg_lex.proofs.SpanLemmas.{spans_of}
 use Rattle.std.proofs.lemmas.Bool.{cases_Bool}
-use Rattle.astg_lex.specs.Lines.{lines_of, with_byte, line_length, code_length, code_of, has_bad_byte}
+use Rattle.astg_lex.specs.Lines.{lines_of, with_byte, line_length, code_of, has_bad_byte}
+use Rattle.astg_lex.specs.inner.Lengths.{code_length}
 use Rattle.astg_lex.specs.Words.{words_at}
 use Rattle.astg_lex.specs.Lexing.{Lexing, Advances, text_left, word_views, AreSpans}
 use Rattle.astg_lex.specs.declared.words.Word.{Word}

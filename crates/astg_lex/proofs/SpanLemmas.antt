@@ -3,7 +3,8 @@ use Rattle.std.proofs.Common.{◌≡◌, ◌+◌, ◌-◌, ◌≤◌, ℕ, suc, 
 use Rattle.std.proofs.lemmas.Bool.{cases_Bool}
 use Rattle.std.proofs.lemmas.List.{take-append-le, drop-append-le}
 use Rattle.std.specs.Prelude.{slice_range}
-use Rattle.astg_lex.specs.Words.{WordAt, words_at, is_blank, word_length}
+use Rattle.astg_lex.specs.Words.{WordAt, words_at, is_blank}
+use Rattle.astg_lex.specs.inner.Lengths.{word_length}
 use Rattle.astg_lex.specs.Lexing.{AreSpans}
 use Rattle.astg_lex.proofs.WordLemmas.{words_at-blank, words_at-word, word_length-most, word_length-least}
 

@@ -1,7 +1,8 @@
 -- The words of bytes that begin with a blank, a single byte or a run of joining ones.
 use Rattle.std.proofs.Common.{◌≡◌, ◌+◌, ◌<◌, ◌≤◌, ℕ, suc, List, [], ◌∷◌, Bool, true, false, cond, not, ◌&&◌, ◌||◌, inl, inr, arith, drop, take, length, get_or, sym, ap, ◌∙◌}
 use Rattle.std.proofs.lemmas.Bool.{cases_Bool, and_from, true≢false}
-use Rattle.astg_lex.specs.Words.{words_at, is_blank, is_single, is_joining, begins_joining, run_length, word_length, word_and_rest, longer}
+use Rattle.astg_lex.specs.Words.{words_at, is_blank, is_single, is_joining, begins_joining, longer}
+use Rattle.astg_lex.specs.inner.Lengths.{run_length, word_length, word_and_rest}
 
 pick-middle : {A : Type 0} (t u : Bool) (x y z : A) → t ≡ false → u ≡ true → cond t x (cond u y z) ≡ y
 pick-middle t u x y z h k = ap (λ s. cond s x (cond u y z)) h ∙ ap (λ s. cond s y z) k

@@ -34,8 +34,3 @@ has_bad_byte line = not (list_all may_stand (code_of line))
 abbrev pub line_length : List ℕ → ℕ
 line_length [] = 0
 line_length (b ∷ bs) = if b == 10 then 0 else suc (line_length bs)
-
--- how many bytes stand before the first # (35)
-abbrev pub code_length : List ℕ → ℕ
-code_length [] = 0
-code_length (b ∷ bs) = if b == 35 then 0 else suc (code_length bs)

@@ -1,5 +1,5 @@
 -- The words of a line.
-use Rattle.std.specs.Prelude.{ℕ, Bool, false, not, ◌&&◌, ◌||◌, ◌==◌, ◌+◌, suc, List, [], ◌∷◌, take, drop, map, codes, if◌then◌else◌}
+use Rattle.std.specs.Prelude.{ℕ, Bool, false, not, ◌&&◌, ◌||◌, ◌==◌, ◌+◌, List, [], ◌∷◌, map, codes, if◌then◌else◌}
 use Rattle.std.specs.List.{list_any}
 use Rattle.astg_lex.specs.Lines.{code_of}
 
@@ -43,17 +43,3 @@ words_at at (b ∷ bs) = words_with at b bs (words_at (at + 1) bs)
 -- the words of a line
 abbrev pub words_of : List ℕ → List (List ℕ)
 words_of line = map (λ (w : WordAt). w.text) (words_at 0 (code_of line))
-
--- how many joining bytes stand in front
-abbrev pub run_length : List ℕ → ℕ
-run_length [] = 0
-run_length (b ∷ bs) = if is_joining b then suc (run_length bs) else 0
-
--- how many bytes the word in front has
-abbrev pub word_length : List ℕ → ℕ
-word_length [] = 0
-word_length (b ∷ bs) = if is_single b then 1 else run_length (b ∷ bs)
-
--- a word of n bytes in front, and the words after it
-abbrev pub word_and_rest : ℕ → ℕ → List ℕ → List WordAt
-word_and_rest n at bytes = record { text = take n bytes; start = at; end = at + n } ∷ words_at (at + n) (drop n bytes)

@@ -4,6 +4,7 @@ ghost use Rattle.std.specs.Prelude.{◌≡◌, ◌≤◌, ◌<◌, ℕ, false, �
 ghost use Rattle.std.specs.List.{list_all};
 ghost use Rattle.astg_lex.specs.Lines.{may_stand};
 ghost use Rattle.astg_lex.specs.Lines as lines;
+ghost use Rattle.astg_lex.specs.inner.Lengths.{code_length, run_length, word_length, word_and_rest};
 ghost use Rattle.astg_lex.specs.Words as words;
 
 pub fn may_stand_here(b: u8) -> bool
@@ -49,7 +50,7 @@ pub fn line_length(bytes: &[u8]) -> usize
 }
 
 pub fn code_length(line: &[u8]) -> usize
-    ensures value { result ≡ lines.code_length line.now }
+    ensures value { result ≡ code_length line.now }
     ensures most { result ≤ length line.now }
 {
     for (i, b) in line.iter().enumerate() {
@@ -84,7 +85,7 @@ pub fn after_line(text: &[u8], at: usize, count: usize) -> usize
 }
 
 pub fn run_length(bytes: &[u8]) -> usize
-    ensures { result ≡ words.run_length bytes.now }
+    ensures { result ≡ run_length bytes.now }
 {
     for (i, b) in bytes.iter().enumerate() {
         if !is_joining(*b) {
@@ -97,10 +98,10 @@ pub fn run_length(bytes: &[u8]) -> usize
 pub fn word_length(bytes: &[u8]) -> usize
     requires some { 0 < length bytes.now }
     requires word { words.is_blank (slice_index bytes.now 0) ≡ false }
-    ensures value { result ≡ words.word_length bytes.now }
+    ensures value { result ≡ word_length bytes.now }
     ensures least { 1 ≤ result }
     ensures most { result ≤ length bytes.now }
-    ensures words { (at : ℕ) → words.words_at at bytes.now ≡ words.word_and_rest result at bytes.now }
+    ensures words { (at : ℕ) → words.words_at at bytes.now ≡ word_and_rest result at bytes.now }
 {
     if is_single(bytes[0]) {
         1

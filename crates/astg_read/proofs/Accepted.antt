@@ -13,18 +13,19 @@ use Rattle.stg_net.specs.Spec.{SpecLists, IsSpec}
 use Rattle.astg_lex.specs.Lines.{lines_of, line_ends}
 use Rattle.astg_read.specs.declared.rule.Rule.{Rule}
 use Rattle.astg_read.specs.declared.rule.Rule.TheVariants.{BadByte, TooLong}
-use Rattle.astg_read.specs.Construction.{AreLimits, IsBuilt}
+use Rattle.astg_read.specs.ReadLimits.{AreLimits}
+use Rattle.astg_read.specs.inner.Construction.{IsBuilt}
 use Rattle.astg_read.specs.Graphs.{PlaceAt}
 use Rattle.astg_read.specs.Header.{same_name}
-use Rattle.astg_read.specs.Said.{Said, GraphLists, said, arcs_in}
+use Rattle.astg_read.specs.Said.{Said, said, arcs_in}
+use Rattle.astg_read.specs.inner.Growth.{GraphLists, after_row}
 use Rattle.astg_read.specs.Laws.{StandsForOne}
 use Rattle.astg_read.specs.Nodes.{same_trans}
 use Rattle.astg_read.specs.Reading.{Meaning, Fault, tokens_by, meaning_of, or_fault, reading_after, reading, place_name, IsSpecOf}
 use Rattle.astg_read.specs.Rows.{Row}
 use Rattle.astg_read.specs.Rules.{Line, seen_line, rules, first_broken, broken_by, ends_text}
-use Rattle.astg_read.specs.WellFormed.{is_trans_in}
-use Rattle.astg_read.specs.Growth.{after_row}
-use Rattle.astg_read.specs.LineResult.{IsFaultless, verdict, said_up_to}
+use Rattle.astg_read.specs.inner.WellFormed.{is_trans_in}
+use Rattle.astg_read.specs.inner.LineResult.{IsFaultless, verdict, said_up_to}
 use Rattle.astg_read.proofs.ArcOrder.{IsOrderOf, order_of}
 use Rattle.astg_read.proofs.ArcsThere.{IsFit, arcs_fit, arcs_apart, differ_pairs}
 use Rattle.astg_read.proofs.ConstructionLemmas.{counts-within, counts-fit, spec-from}

@@ -2,7 +2,7 @@
 use Rattle.std.specs.Prelude.{ℕ, List, codes, refl}
 use Rattle.std.proofs.Common.{arith}
 use Rattle.stg_net.specs.declared.limits.Limits.{Limits}
-use Rattle.astg_read.specs.Construction.{AreLimits}
+use Rattle.astg_read.specs.ReadLimits.{AreLimits}
 use Rattle.astg_read.specs.Laws.{StandsForOne}
 use Rattle.astg_read.proofs.Accepted.{accepted_stands}
 

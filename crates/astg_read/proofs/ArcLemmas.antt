@@ -10,14 +10,14 @@ use Rattle.stg_net.specs.declared.trans.TransName.{TransName}
 use Rattle.stg_net.specs.declared.arc.NetArc.{NetArc}
 use Rattle.std.specs.Option.{option_map_or}
 use Rattle.stg_net.specs.Building.{Building, HasEnds}
-use Rattle.astg_read.specs.Construction.{IsReady}
+use Rattle.astg_read.specs.inner.Construction.{IsReady}
 use Rattle.astg_read.specs.Targets.{is_weight}
 use Rattle.stg_net.specs.Net.{is_edge}
 use Rattle.stg_net.proofs.Edges.{is_edge-true}
 use Rattle.astg_read.specs.Nodes.{Node, Trans, Place, same_trans, same_node}
 use Rattle.astg_read.specs.Lists.{has_repeat}
 use Rattle.astg_read.specs.Graphs.{TextArc, PlaceAt, Named, Between, same_text_arc, same_place, trans_number, place_number, node_arcs, arcs_of, arcs}
-use Rattle.astg_read.specs.WellFormed.{IsNodeIn, IsBetweenIn, AreTextArcsIn}
+use Rattle.astg_read.specs.inner.WellFormed.{IsNodeIn, IsBetweenIn, AreTextArcsIn}
 use Rattle.astg_read.proofs.NumberLemmas.{position_there, same_trans-refl, found_within}
 
 pub trans-eq : (t u : TransName) → same_trans t u ≡ true → t ≡ u

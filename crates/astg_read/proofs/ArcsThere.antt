@@ -13,7 +13,7 @@ use Rattle.stg_net.proofs.Moved.{AllPairs-append}
 use Rattle.astg_read.specs.Graphs.{TextArc, PlaceAt, Named, Between, same_text_arc, same_place, node_arcs, arcs_of, arcs}
 use Rattle.astg_read.specs.Lists.{has_repeat}
 use Rattle.astg_read.specs.Nodes.{Node, Trans, Place, same_trans}
-use Rattle.astg_read.specs.WellFormed.{IsNodeIn, IsBetweenIn, IsTextArcIn, AreTextArcsIn, is_weighed}
+use Rattle.astg_read.specs.inner.WellFormed.{IsNodeIn, IsBetweenIn, IsTextArcIn, AreTextArcsIn, is_weighed}
 use Rattle.astg_read.specs.Targets.{is_weight}
 use Rattle.astg_read.proofs.ArcLemmas.{number-below, arc-fresh, arcs-from, AllArcs, IsArcFrom}
 use Rattle.astg_read.proofs.ArcOrder.{AreApart}

@@ -7,11 +7,12 @@ use Rattle.std.specs.Prelude.{codes}
 use Rattle.std.specs.List.{list_any}
 use Rattle.std.specs.Borrow.{Bor}
 use Rattle.std.proofs.lemmas.List.{length-map}
-use Rattle.astg_read.specs.Views.{slices_view}
+use Rattle.astg_read.specs.inner.Views.{slices_view}
 use Rattle.astg_read.specs.Rows.{Word, Row}
 use Rattle.astg_read.specs.Header.{Declared}
 use Rattle.astg_read.specs.Graphs.{PlaceAt}
-use Rattle.astg_read.specs.Markings.{is_opening, is_closing, before_close, after_close, close_length, entries_after, has_bad_entry, is_bad_marking}
+use Rattle.astg_read.specs.Markings.{is_opening, is_closing, before_close, after_close, entries_after, has_bad_entry, is_bad_marking}
+use Rattle.astg_read.specs.inner.Fronts.{close_length}
 
 -- the words before the first } are the first ones
 pub before-take : (ws : Row) → before_close ws ≡ take (close_length ws) ws

@@ -12,14 +12,16 @@ use Rattle.stg_net.specs.declared.spec.PlaceName.{PlaceName}
 use Rattle.stg_net.specs.Net.{NetLists, IsWithin}
 use Rattle.stg_net.specs.Names.{is_name}
 use Rattle.stg_net.specs.Spec.{IsSpec, IsPlaceNameOf}
-use Rattle.astg_read.specs.Construction.{AreLimits, AreReady, IsBuilt, said_by}
+use Rattle.astg_read.specs.ReadLimits.{AreLimits}
+use Rattle.astg_read.specs.inner.Construction.{AreReady, IsBuilt, said_by}
 use Rattle.astg_read.specs.Graphs.{TextArc, PlaceAt, Named, Between}
-use Rattle.astg_read.specs.Said.{GraphLists, arcs_in}
+use Rattle.astg_read.specs.inner.Growth.{GraphLists}
+use Rattle.astg_read.specs.Said.{arcs_in}
 use Rattle.astg_read.specs.Rules.{has_too_many}
 use Rattle.stg_net.specs.Building.{Building}
 use Rattle.astg_read.specs.Nodes.{same_trans}
 use Rattle.astg_read.specs.Reading.{place_name}
-use Rattle.astg_read.specs.WellFormed.{is_weighed, is_named, is_trans_in, is_place_in, IsWellFormed}
+use Rattle.astg_read.specs.inner.WellFormed.{is_weighed, is_named, is_trans_in, is_place_in, IsWellFormed}
 use Rattle.astg_read.proofs.ArcLemmas.{number-below}
 
 is_true : (b : Bool) → b ≡ true → IsTrue b

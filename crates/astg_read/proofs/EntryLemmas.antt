@@ -6,10 +6,11 @@ use Rattle.std.proofs.lemmas.List.{map-append, length-map, drop-map}
 use Rattle.stg_net.specs.declared.signal.Signal.{Signal}
 use Rattle.astg_read.specs.declared.entries.Entry.{Entry as ReadEntry}
 use Rattle.astg_read.specs.Rows.{Word, Row}
-use Rattle.astg_read.specs.Header.{without_dummies}
-use Rattle.astg_read.specs.Markings.{Entry, entry_at, further_words, front_entry, entries_after, named_by, between_both, named_place}
+use Rattle.astg_read.specs.inner.NoDummies.{without_dummies}
+use Rattle.astg_read.specs.Markings.{Entry, entry_at, further_words, entries_after, named_by, between_both, named_place}
+use Rattle.astg_read.specs.inner.Fronts.{front_entry}
 use Rattle.astg_read.specs.Nodes.{trans_of_word}
-use Rattle.astg_read.specs.Views.{slices_view, entry_view, entry_views}
+use Rattle.astg_read.specs.inner.Views.{slices_view, entry_view, entry_views}
 
 -- words that are passed over
 pub skipped : (n : ℕ) (ws : Row) → entries_after n ws ≡ entries_after zero (drop n ws)

@@ -12,12 +12,12 @@ use Rattle.astg_read.specs.Rows.{Word, Row, begins, after_first, is_header, is_d
 use Rattle.astg_read.specs.Markings.{before_close, is_bad_marking, is_unfinished}
 use Rattle.astg_read.specs.Said.{Said, arcs_in}
 use Rattle.astg_read.specs.Rules.{line_rules, has_too_many, breaks_directive, breaks_order, breaks_marking, marking_with, ends_text}
-use Rattle.astg_read.specs.Growth.{after_row, after_graph, with_names, with_graph_row}
-use Rattle.astg_read.specs.WellFormed.{IsWellFormed}
+use Rattle.astg_read.specs.inner.Growth.{after_row, after_graph, with_names, with_graph_row}
+use Rattle.astg_read.specs.inner.WellFormed.{IsWellFormed}
 use Rattle.astg_read.specs.declared.reader.Reader.{Reader}
-use Rattle.astg_read.specs.Header.{without_dummies}
-use Rattle.astg_read.specs.MarkingCheck.{IsSettled}
-use Rattle.astg_read.specs.LineResult.{line_fault, verdict, said_up_to, nothing, said_of, IsGood, IsFaultless, IsSettledIn}
+use Rattle.astg_read.specs.inner.NoDummies.{without_dummies}
+use Rattle.astg_read.specs.inner.MarkingCheck.{IsSettled}
+use Rattle.astg_read.specs.inner.LineResult.{line_fault, verdict, said_up_to, nothing, said_of, IsGood, IsFaultless, IsSettledIn}
 use Rattle.astg_read.proofs.Verdicts.{past, stop, verdict-inside}
 use Rattle.astg_read.proofs.LineResultLemmas.{verdict-said, verdict-dummies, too-said_up_to, ends-outside, ends-inside, broken-head, dummy-row, or_later-none, after-begun, after-before}
 use Rattle.astg_read.proofs.WellFormedLemmas.{well_formed-after, well_formed-marking}

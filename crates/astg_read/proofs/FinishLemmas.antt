@@ -1,23 +1,20 @@
 -- The specification of what the lines say.
-use Rattle.std.proofs.Common.{◌≡◌, ℕ, ◌≤◌, map, Some, None, Option, ◌∙◌, arith}
+use Rattle.std.proofs.Common.{◌≡◌, ℕ, ◌≤◌, map, Some, None, Option, ◌∙◌, arith, not, ◌||◌, [], length, nat_lt}
 use Rattle.stg_net.specs.declared.limits.Limits.{Limits}
 use Rattle.stg_net.specs.Spec.{SpecLists}
-use Rattle.astg_read.specs.Construction.{IsBuilt, said_by}
+use Rattle.astg_read.specs.inner.Construction.{IsBuilt, said_by}
 use Rattle.astg_read.specs.Graphs.{PlaceAt}
-use Rattle.astg_read.specs.Header.{without_dummies}
+use Rattle.astg_read.specs.inner.NoDummies.{without_dummies}
 use Rattle.astg_read.specs.Said.{Said}
-use Rattle.astg_read.specs.Markings.{entries_of}
+use Rattle.astg_read.specs.Markings.{entries_of, has_bad_entry, is_closing, starts_marking, after_close}
 use Rattle.astg_read.specs.Reading.{IsSpecOf, meaning_of, tokens_by}
 use Rattle.astg_read.specs.Rows.{Row}
-use Rattle.astg_read.specs.LineResult.{IsFaultless, IsGood}
+use Rattle.astg_read.specs.inner.LineResult.{IsFaultless, IsGood, said_of}
 use Rattle.astg_read.specs.declared.reader.Reader.{Reader}
-use Rattle.astg_read.specs.LineResult.{said_of}
 use Rattle.astg_read.proofs.PlaceTokensLemmas.{tokens-within}
 use Rattle.astg_read.proofs.Faultless.{good-some}
 use Rattle.std.proofs.lemmas.Bool.{or_parts}
-use Rattle.std.proofs.Common.{not, ◌||◌, [], length, nat_lt}
 use Rattle.std.specs.List.{list_any}
-use Rattle.astg_read.specs.Markings.{has_bad_entry, is_closing, starts_marking, after_close}
 
 -- signals and graph keep what the reader keeps
 pub faultless-by : (l : Limits) (r : Reader) → IsFaultless l (said_of r) → IsFaultless l (said_by r.signals r.graph)

@@ -15,7 +15,7 @@ use Rattle.astg_read.specs.Lists.{with_new}
 use Rattle.astg_read.specs.Nodes.{Node, Trans, same_trans}
 use Rattle.astg_read.specs.Nodes as At
 use Rattle.astg_read.specs.Graphs.{TextArc, PlaceAt, same_text_arc, same_place, arcs, arcs_of, node_arcs}
-use Rattle.astg_read.specs.Views.{place_view, weighed_view}
+use Rattle.astg_read.specs.inner.Views.{place_view, weighed_view}
 use Rattle.astg_read.proofs.Keyed.{any-seen, position-seen, position-entry, keys-with_new}
 use Rattle.astg_read.proofs.NumberLemmas.{any-found, any-missing}
 use Rattle.astg_read.proofs.SameLemmas.{trans-same, places-same, ends-same}

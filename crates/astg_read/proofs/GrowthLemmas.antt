@@ -14,7 +14,7 @@ use Rattle.astg_read.specs.Header.{Declared, declared_in, signals_on, dummies_on
 use Rattle.astg_read.specs.Nodes.{same_trans}
 use Rattle.astg_read.specs.Graphs.{same_place, trans_on, places_on, text_arcs_on, transitions, places, text_arcs}
 use Rattle.astg_read.specs.Said.{Said, said}
-use Rattle.astg_read.specs.Growth.{with_names, with_header, with_graph_row, after_graph, after_row}
+use Rattle.astg_read.specs.inner.Growth.{with_names, with_header, with_graph_row, after_graph, after_row}
 
 -- the first new ones, and then the other ones
 pub firsts-append : {X : Type 0} (same : X → X → Bool) (seen xs ys : List X) → firsts same seen (xs ++ ys) ≡ firsts same (firsts same seen xs) ys

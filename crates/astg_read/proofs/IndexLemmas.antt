@@ -14,7 +14,7 @@ use Rattle.astg_read.specs.Rows.{Word}
 use Rattle.astg_read.specs.Names.{WordOfTrans, value_after, is_number, number, index_of, change_of, edge_of, read_trans_word}
 use Rattle.astg_read.specs.Header.{Declared, is_dummy}
 use Rattle.astg_read.specs.Nodes.{front_name, dummy_word, trans_word_parts, with_number, trans_of_word}
-use Rattle.astg_read.specs.WellFormed.{is_trans_in}
+use Rattle.astg_read.specs.inner.WellFormed.{is_trans_in}
 
 -- a bound times ten for each digit
 abbrev scaled : ℕ → Word → ℕ

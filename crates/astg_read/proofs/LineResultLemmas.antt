@@ -16,8 +16,8 @@ use Rattle.astg_read.specs.Rows.{Word, Row, begins, begins_with_dot, after_first
 use Rattle.astg_read.specs.Markings.{is_unfinished}
 use Rattle.astg_read.specs.Said.{Said}
 use Rattle.astg_read.specs.Rules.{first_broken, line_rules, outside_rules, has_too_many, has_dummy, breaks_directive, ends_text}
-use Rattle.astg_read.specs.Growth.{after_row, after_graph, with_header}
-use Rattle.astg_read.specs.LineResult.{line_fault, Says, Takes, verdict, said_up_to, with_count, directive}
+use Rattle.astg_read.specs.inner.Growth.{after_row, after_graph, with_header}
+use Rattle.astg_read.specs.inner.LineResult.{line_fault, Says, Takes, verdict, said_up_to, with_count, directive}
 use Rattle.astg_read.proofs.Verdicts.{or_later, past, stop, verdict-outside}
 
 -- the rules before and the rules after

@@ -8,14 +8,15 @@ use Rattle.std.proofs.lemmas.List.{drop-append-le, drop-drop, drop_all, length-a
 use Rattle.astg_read.specs.declared.entries.Entry.{Entry as ReadEntry}
 use Rattle.std.specs.List.{list_any}
 use Rattle.astg_read.specs.declared.marking_check.MarkingCheck.{MarkingCheck}
-use Rattle.astg_read.specs.MarkingCheck.{IsSettled}
-use Rattle.astg_read.specs.Views.{place_view, slices_view, entry_view}
+use Rattle.astg_read.specs.inner.MarkingCheck.{IsSettled}
+use Rattle.astg_read.specs.inner.Views.{place_view, slices_view, entry_view}
 use Rattle.astg_read.proofs.EntryLemmas.{skipped, one-more}
 use Rattle.astg_read.proofs.CloseLemmas.{before-take, after-length}
 use Rattle.astg_read.specs.Rows.{Word, Row}
 use Rattle.astg_read.specs.Header.{Declared}
 use Rattle.astg_read.specs.Graphs.{PlaceAt}
-use Rattle.astg_read.specs.Markings.{Entry, entry_at, opens_place, is_equals, token_words, further_words, front_entry, entries_after, is_bad_entry, has_bad_entry, with_named, is_whole, is_closing, before_close, close_length, starts_entry, is_whole_place, names_one, tokens_of}
+use Rattle.astg_read.specs.Markings.{Entry, entry_at, opens_place, is_equals, token_words, further_words, entries_after, is_bad_entry, has_bad_entry, with_named, is_whole, is_closing, before_close, starts_entry, is_whole_place, names_one, tokens_of}
+use Rattle.astg_read.specs.inner.Fronts.{front_entry, close_length}
 
 -- more words behind a word after them leave the token words
 tokens-kept : (ws more : Row) → length (token_words ws) < length ws → token_words (ws ++ more) ≡ token_words ws

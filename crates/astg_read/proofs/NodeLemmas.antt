@@ -9,11 +9,11 @@ use Rattle.astg_read.specs.Rows.{Word, Row, begins, begins_with_dot}
 use Rattle.astg_read.specs.Nodes.{Node, node_of, same_trans}
 use Rattle.astg_read.specs.Targets.{Target, targets_after, words_in}
 use Rattle.astg_read.specs.Graphs.{TextArc, text_arc_of, text_arcs_on, same_place, node_trans, node_place}
-use Rattle.astg_read.specs.Said.{Said, GraphLists}
+use Rattle.astg_read.specs.Said.{Said}
+use Rattle.astg_read.specs.inner.Growth.{GraphLists, with_graph_row, in_graph, after_graph, with_header, after_row, with_node, with_targets, with_text_arcs, trans_in, places_in}
 use Rattle.astg_read.specs.Markings.{is_unfinished}
-use Rattle.astg_read.specs.GraphRules.{name_fault, text_arc_fault}
-use Rattle.astg_read.specs.Growth.{with_graph_row, in_graph, after_graph, with_header, after_row, with_node, with_targets, with_text_arcs, trans_in, places_in}
-use Rattle.astg_read.specs.LineResult.{line_fault, said_up_to}
+use Rattle.astg_read.specs.inner.GraphRules.{name_fault, text_arc_fault}
+use Rattle.astg_read.specs.inner.LineResult.{line_fault, said_up_to}
 use Rattle.astg_read.proofs.GrowthLemmas.{firsts-append}
 use Rattle.astg_read.proofs.Verdicts.{or_later, past, fault-nodes}
 

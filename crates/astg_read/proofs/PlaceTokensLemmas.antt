@@ -6,7 +6,7 @@ use Rattle.std.specs.Option.{option_map_or}
 use Rattle.astg_read.specs.Header.{Declared}
 use Rattle.astg_read.specs.Graphs.{PlaceAt, same_place}
 use Rattle.astg_read.specs.Markings.{Entry, named_place, tokens_of, entry_tokens, is_bad_entry, has_bad_entry, with_named, starts_entry, is_whole, is_whole_place, names_one}
-use Rattle.astg_read.specs.PlaceTokens.{PlaceTokens, place_tokens_of, tokens_for}
+use Rattle.astg_read.specs.inner.PlaceTokens.{PlaceTokens, place_tokens_of, tokens_for}
 
 at-cons : (o : Option PlaceAt) (n : ℕ) (ms : List PlaceTokens) (p : PlaceAt) (later : ℕ) → tokens_for ms p ≡ later
     → tokens_for (cons_option (option_map (λ q. record { place = q; tokens = n }) o) ms) p ≡ cond (option_map_or (same_place p) o false) n later

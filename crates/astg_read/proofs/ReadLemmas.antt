@@ -13,9 +13,9 @@ use Rattle.astg_read.specs.Rows.{Row}
 use Rattle.astg_read.specs.Said.{Said, said}
 use Rattle.astg_read.specs.Rules.{rules, first_broken, seen_line, ends_text}
 use Rattle.astg_read.specs.Reading.{Meaning, Fault, meaning_of, or_fault, reading_after, reading}
-use Rattle.astg_read.specs.Views.{texts}
-use Rattle.astg_read.specs.Growth.{after_row}
-use Rattle.astg_read.specs.LineResult.{verdict}
+use Rattle.astg_read.specs.inner.Views.{texts}
+use Rattle.astg_read.specs.inner.Growth.{after_row}
+use Rattle.astg_read.specs.inner.LineResult.{verdict}
 use Rattle.astg_read.proofs.GrowthLemmas.{said-after}
 
 -- the lines taken so far

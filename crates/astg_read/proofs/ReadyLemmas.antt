@@ -6,11 +6,11 @@ use Rattle.std.specs.List.{list_any, list_all}
 use Rattle.stg_net.specs.declared.trans.TransName.{TransName}
 use Rattle.stg_net.specs.Building.{Building}
 use Rattle.astg_read.specs.declared.text_graph.Ends.{Ends}
-use Rattle.astg_read.specs.Construction.{AreReady, IsReady, with_all_arcs}
+use Rattle.astg_read.specs.inner.Construction.{AreReady, IsReady, with_all_arcs}
 use Rattle.astg_read.specs.Graphs.{TextArc, PlaceAt, same_text_arc, arcs, arcs_of}
 use Rattle.astg_read.specs.Lists.{has_repeat}
-use Rattle.astg_read.specs.Views.{weighed_view}
-use Rattle.astg_read.specs.WellFormed.{is_weighed}
+use Rattle.astg_read.specs.inner.Views.{weighed_view}
+use Rattle.astg_read.specs.inner.WellFormed.{is_weighed}
 use Rattle.astg_read.proofs.WellFormedGraph.{text_arcs-append}
 
 module _ (b : Building) (ts : List TransName) (ps : List PlaceAt) (p : TextArc) (rest : List TextArc) where

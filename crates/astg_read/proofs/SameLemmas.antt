@@ -16,7 +16,7 @@ use Rattle.astg_read.specs.contracts.text_graph.EndsPartialEq.TheImpl as ends
 use Rattle.stg_net.specs.Net.{is_edge}
 use Rattle.astg_read.specs.Nodes.{same_trans, same_node}
 use Rattle.astg_read.specs.Graphs.{same_place}
-use Rattle.astg_read.specs.Views.{node_view, place_view}
+use Rattle.astg_read.specs.inner.Views.{node_view, place_view}
 
 edges-same : (a b : Edge) → (edges.eq-value).it a b ≡ is_edge a b
 edges-same Rise Rise = refl

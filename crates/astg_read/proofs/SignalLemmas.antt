@@ -10,7 +10,7 @@ use Rattle.stg_net.specs.declared.signal.Kind.{Kind}
 use Rattle.stg_net.specs.Net.{number_of}
 use Rattle.astg_read.specs.Header.{same_name}
 use Rattle.astg_read.specs.Lists.{has_repeat}
-use Rattle.astg_read.specs.Views.{signal_view}
+use Rattle.astg_read.specs.inner.Views.{signal_view}
 use Rattle.astg_read.proofs.NumberLemmas.{any-found, any-missing, position-none}
 use Rattle.astg_read.proofs.Keyed.{position-entry}
 

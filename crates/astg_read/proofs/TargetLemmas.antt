@@ -1,14 +1,14 @@
 -- The targets of words, one after the other.
-use Rattle.std.proofs.Common.{◌≡◌, ◌<◌, ℕ, zero, suc, List, [], ◌∷◌, ◌++◌, cond, inl, inr, drop, take, length, map, refl, sym, ap, ◌∙◌, arith}
+use Rattle.std.proofs.Common.{◌≡◌, ◌<◌, ℕ, zero, suc, List, [], ◌∷◌, ◌++◌, cond, inl, inr, drop, take, length, map, refl, sym, ap, ◌∙◌, arith, ◌-◌, take_all, length-drop, append_assoc}
 use Rattle.astg_lex.proofs.ListLemmas.{passed-over}
 use Rattle.std.proofs.lemmas.Bool.{cases_Bool}
-use Rattle.std.proofs.Common.{◌-◌, take_all, length-drop, append_assoc}
 use Rattle.std.proofs.lemmas.List.{map-append, length-map, drop-map}
 use Rattle.astg_lex.specs.declared.words.Word.{Word}
 use Rattle.astg_read.specs.declared.targets.Target.{Target as ReadTarget}
-use Rattle.astg_read.specs.Views.{texts, target_view}
+use Rattle.astg_read.specs.inner.Views.{texts, target_view}
 use Rattle.astg_read.specs.Rows.{Row}
-use Rattle.astg_read.specs.Targets.{target_at, targets_after, group_at, opens_group, target_words, front_target}
+use Rattle.astg_read.specs.Targets.{target_at, targets_after, group_at, opens_group}
+use Rattle.astg_read.specs.inner.Fronts.{target_words, front_target}
 
 -- words that are passed over
 skipped : (n : ℕ) (ws : Row) → targets_after n ws ≡ targets_after zero (drop n ws)

@@ -18,9 +18,9 @@ use Rattle.astg_read.specs.Targets.{node_words, targets_of}
 use Rattle.astg_read.specs.Graphs.{text_arcs_on}
 use Rattle.astg_read.specs.Said.{Said}
 use Rattle.astg_read.specs.Rules.{first_broken, outside_rules, breaks_marking}
-use Rattle.astg_read.specs.Growth.{after_row}
-use Rattle.astg_read.specs.LineResult.{line_fault, directive, verdict}
-use Rattle.astg_read.specs.GraphRules.{name_fault, text_arc_fault}
+use Rattle.astg_read.specs.inner.Growth.{after_row}
+use Rattle.astg_read.specs.inner.LineResult.{line_fault, directive, verdict}
+use Rattle.astg_read.specs.inner.GraphRules.{name_fault, text_arc_fault}
 
 -- the first of two, where there is one
 abbrev pub or_later : Option Rule → Option Rule → Option Rule

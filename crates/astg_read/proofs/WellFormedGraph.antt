@@ -12,8 +12,8 @@ use Rattle.astg_read.specs.Lists.{firsts}
 use Rattle.astg_read.specs.Nodes.{Node, Trans, Place, same_trans, trans_of_word, trans_or_place, node_of}
 use Rattle.astg_read.specs.Targets.{Target, targets_after, is_weight, group_weight, is_good_group}
 use Rattle.astg_read.specs.Graphs.{TextArc, PlaceAt, Named, Between, same_place, node_trans, node_place, place_between, text_arc_of, text_arcs_on, trans_on, places_on}
-use Rattle.astg_read.specs.Growth.{trans_in, places_in}
-use Rattle.astg_read.specs.WellFormed.{is_trans_in, is_place_in, is_weighed, IsNodeIn, IsBetweenIn, IsTextArcIn, AreTextArcsIn}
+use Rattle.astg_read.specs.inner.Growth.{trans_in, places_in}
+use Rattle.astg_read.specs.inner.WellFormed.{is_trans_in, is_place_in, is_weighed, IsNodeIn, IsBetweenIn, IsTextArcIn, AreTextArcsIn}
 use Rattle.astg_read.proofs.Repeats.{any-with_new}
 use Rattle.astg_read.proofs.IndexLemmas.{IsGoodTrans, trans_of_word-good}
 use Rattle.astg_read.proofs.NumberLemmas.{any-firsts, same_trans-refl}

@@ -17,9 +17,9 @@ use Rattle.astg_read.specs.Targets.{node_words, targets_after, targets_of, is_go
 use Rattle.astg_read.specs.Graphs.{same_text_arc, same_place, node_trans, node_place, text_arcs_on, trans_on, places_on, weighs_trans}
 use Rattle.astg_read.specs.Said.{Said}
 use Rattle.astg_read.specs.Rules.{first_broken, line_rules, breaks_directive, breaks_order, breaks_names, declares_twice, has_unknown, has_no_edge, has_bad_arc, repeats_arc, has_bad_weight}
-use Rattle.astg_read.specs.Growth.{after_row, after_graph, in_graph, with_names, with_graph_row, trans_in, places_in}
-use Rattle.astg_read.specs.WellFormed.{is_named, is_trans_in, is_place_in, is_weighed, IsWellFormed, AreTextArcsIn}
-use Rattle.astg_read.specs.LineResult.{line_fault}
+use Rattle.astg_read.specs.inner.Growth.{after_row, after_graph, in_graph, with_names, with_graph_row, trans_in, places_in}
+use Rattle.astg_read.specs.inner.WellFormed.{is_named, is_trans_in, is_place_in, is_weighed, IsWellFormed, AreTextArcsIn}
+use Rattle.astg_read.specs.inner.LineResult.{line_fault}
 use Rattle.astg_read.proofs.Repeats.{again-more, again-firsts, all-firsts}
 use Rattle.astg_read.proofs.WellFormedGraph.{line-there, line-weighed, line-good, text_arcs-more, text_arcs-append, places-wider, line-places}
 use Rattle.astg_read.proofs.GrowthLemmas.{firsts-append}

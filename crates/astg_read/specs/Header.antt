@@ -39,7 +39,3 @@ same_name s t = bytes_eq s.name t.name
 -- the name is a declared dummy's
 abbrev pub is_dummy : Declared → Word → Bool
 is_dummy declared_in name = list_any (bytes_eq name) declared_in.dummies
-
--- what is declared where there are no dummies
-abbrev pub without_dummies : List Signal → Declared
-without_dummies signals = record { signals = signals; dummies = [] }

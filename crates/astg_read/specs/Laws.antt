@@ -3,7 +3,7 @@ use Rattle.std.specs.Prelude.{◌≡◌, ℕ, false, List, Ok}
 use Rattle.stg_net.specs.declared.limits.Limits.{Limits}
 use Rattle.stg_net.specs.Net.{IsWithin}
 use Rattle.stg_net.specs.Spec.{SpecLists, IsSpec}
-use Rattle.astg_read.specs.Construction.{AreLimits}
+use Rattle.astg_read.specs.ReadLimits.{AreLimits}
 use Rattle.astg_read.specs.Reading.{Meaning, reading}
 use Rattle.astg_read.specs.Standing.{StandsFor}
 

@@ -1,3 +1,4 @@
+-- What is promised.
 pub mod Refusals
 pub mod Rows
 pub mod Names
@@ -10,13 +11,8 @@ pub mod Markings
 pub mod Said
 pub mod Rules
 pub mod Reading
-pub mod Views
-pub mod Growth
-pub mod LineResult
-pub mod GraphRules
-pub mod WellFormed
-pub mod Construction
-pub mod PlaceTokens
-pub mod MarkingCheck
 pub mod Standing
 pub mod Laws
+pub mod ReadLimits
+-- What serves private functions alone.
+pub mod inner

@@ -56,11 +56,6 @@ entry_at w ws = let place = place_words w ws in record { place = place; tokens =
 abbrev pub further_words : Entry → ℕ
 further_words e = length (drop 1 e.place) + length e.tokens
 
--- the entry in front
-abbrev pub front_entry : Row → Entry
-front_entry [] = record { place = []; tokens = [] }
-front_entry (w ∷ ws) = entry_at w ws
-
 -- the entries of these words, of which the first ones still belong to one
 abbrev pub entries_after : ℕ → Row → List Entry
 entries_after skipped [] = []
@@ -71,11 +66,6 @@ entries_after (suc n) (w ∷ ws) = entries_after n ws
 abbrev pub before_close : Row → Row
 before_close [] = []
 before_close (w ∷ ws) = if is_closing w then [] else w ∷ before_close ws
-
--- how many words stand before the first }
-abbrev pub close_length : Row → ℕ
-close_length [] = 0
-close_length (w ∷ ws) = if is_closing w then 0 else suc (close_length ws)
 
 -- the words after the first }
 abbrev pub after_close : Row → Row

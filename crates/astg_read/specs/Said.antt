@@ -6,12 +6,6 @@ use Rattle.astg_read.specs.Rows.{Row, has_graph, graph_rows, marking_words}
 use Rattle.astg_read.specs.Header.{Declared, declared_in}
 use Rattle.astg_read.specs.Graphs.{TextArc, PlaceAt, transitions, places, text_arcs, arcs}
 
--- transitions and places in order of first appearance, and text arcs in their order
-pub record GraphLists : Type 0 where
-  pub trans : List TransName
-  pub places : List PlaceAt
-  pub text_arcs : List TextArc
-
 -- whether .graph stood, what the header declares, what the graph's lines say, and the words of the marking
 pub record Said : Type 0 where
   pub has_graph : Bool

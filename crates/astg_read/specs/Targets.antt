@@ -35,16 +35,6 @@ targets_after skipped [] = []
 targets_after zero (w ∷ ws) = target_at w ws ∷ targets_after (group_words w ws) ws
 targets_after (suc n) (w ∷ ws) = targets_after n ws
 
--- how many words the target in front takes
-abbrev pub target_words : Row → ℕ
-target_words [] = 0
-target_words (w ∷ ws) = if opens_group w then length (take 3 (w ∷ ws)) else suc (length (group_at ws))
-
--- the target in front
-abbrev pub front_target : Row → Target
-front_target [] = record { word = None; group = [] }
-front_target (w ∷ ws) = target_at w ws
-
 -- the targets of a graph line
 abbrev pub targets_of : Row → List Target
 targets_of [] = []

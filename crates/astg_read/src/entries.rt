@@ -1,10 +1,11 @@
 //! The entries of a marking.
 
 ghost use Rattle.std.specs.Prelude.{◌≡◌, ◌≤◌, ◌<◌, ◌^◌, ◌+◌, [], zero, length, option_map, IfOk};
-ghost use Rattle.astg_read.specs.Header.{without_dummies};
+ghost use Rattle.astg_read.specs.inner.NoDummies.{without_dummies};
 ghost use Rattle.astg_read.specs.Markings.{entries_after};
 ghost use Rattle.astg_read.specs.Markings as markings;
-ghost use Rattle.astg_read.specs.Views.{entry_view, entry_views, place_view, slices_view};
+ghost use Rattle.astg_read.specs.inner.Fronts.{front_entry};
+ghost use Rattle.astg_read.specs.inner.Views.{entry_view, entry_views, place_view, slices_view};
 
 use crate::names::{is_name, number};
 use crate::nodes::{is_trans_word, trans_of_word};
@@ -47,7 +48,7 @@ fn is_equals(word: &[u8]) -> bool
 /// The words of the place in front.
 fn place_words<'w, 'a>(words: &'w [&'a [u8]]) -> &'w [&'a [u8]]
     requires { 0 < length words.now }
-    ensures place { slices_view result.now ≡ (markings.front_entry (slices_view words.now)).place }
+    ensures place { slices_view result.now ≡ (front_entry (slices_view words.now)).place }
     ensures least { 1 ≤ length result.now }
     ensures most { length result.now ≤ length words.now }
 {
@@ -75,7 +76,7 @@ fn token_words<'w, 'a>(words: &'w [&'a [u8]]) -> &'w [&'a [u8]]
 /// The entry in front.
 pub fn front<'w, 'a>(words: &'w [&'a [u8]]) -> Entry<'w, 'a>
     requires { 0 < length words.now }
-    ensures entry { entry_view result ≡ markings.front_entry (slices_view words.now) }
+    ensures entry { entry_view result ≡ front_entry (slices_view words.now) }
     ensures least { 1 ≤ length result.place.now }
     ensures most { length result.place.now + length result.tokens.now ≤ length words.now }
 {

@@ -2,11 +2,11 @@
 
 ghost use Rattle.std.specs.Prelude.{◌≡◌, ◌∷◌, ◌<◌, ◌^◌, not, length, None, IfOk, IsTrue};
 ghost use Rattle.astg_read.specs.Graphs.{same_text_arc};
-ghost use Rattle.astg_read.specs.GraphRules as rules;
-ghost use Rattle.astg_read.specs.Header.{without_dummies};
+ghost use Rattle.astg_read.specs.inner.GraphRules as rules;
+ghost use Rattle.astg_read.specs.inner.NoDummies.{without_dummies};
 ghost use Rattle.astg_read.specs.Lists.{has_repeat};
-ghost use Rattle.astg_read.specs.Views.{text_arc_views, target_views};
-ghost use Rattle.astg_read.specs.Growth.{with_text_arcs};
+ghost use Rattle.astg_read.specs.inner.Views.{text_arc_views, target_views};
+ghost use Rattle.astg_read.specs.inner.Growth.{with_text_arcs};
 ghost use Rattle.astg_read.specs.Targets.{words_in};
 
 use crate::Rule;

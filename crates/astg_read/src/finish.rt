@@ -4,18 +4,19 @@ ghost use Rattle.std.specs.Prelude.{◌≡◌, ◌+◌, ◌<◌, ◌≤◌, ◌^
 ghost use Rattle.std.specs.List.{list_all};
 ghost use Rattle.stg_net.specs.declared.trans.TransName.{TransName};
 ghost use Rattle.stg_net.specs.Building.{HasEnds, with_arc};
-ghost use Rattle.astg_read.specs.Construction.{AreLimits, IsBuilt, IsReady, AreReady, said_by, with_all_trans, with_all_tokens, with_all_arcs};
+ghost use Rattle.astg_read.specs.ReadLimits.{AreLimits};
+ghost use Rattle.astg_read.specs.inner.Construction.{IsBuilt, IsReady, AreReady, said_by, with_all_trans, with_all_tokens, with_all_arcs};
 ghost use Rattle.astg_read.specs.Graphs.{PlaceAt};
 ghost use Rattle.astg_read.specs.Graphs as graphs;
-ghost use Rattle.astg_read.specs.PlaceTokens as listed;
-ghost use Rattle.astg_read.specs.Header.{without_dummies};
+ghost use Rattle.astg_read.specs.inner.PlaceTokens as listed;
+ghost use Rattle.astg_read.specs.inner.NoDummies.{without_dummies};
 ghost use Rattle.astg_read.specs.Lists.{has_repeat};
 ghost use Rattle.astg_read.specs.Nodes as nodes;
 ghost use Rattle.astg_read.specs.Reading as readings;
-ghost use Rattle.astg_read.specs.WellFormed.{is_trans_in};
-ghost use Rattle.astg_read.specs.LineResult.{IsFaultless, said_of};
+ghost use Rattle.astg_read.specs.inner.WellFormed.{is_trans_in};
+ghost use Rattle.astg_read.specs.inner.LineResult.{IsFaultless, said_of};
 ghost use Rattle.stg_net.specs.Net.{IsWithin};
-ghost use Rattle.astg_read.specs.Views.{place_tokens_views, node_view, place_view, weighed_view};
+ghost use Rattle.astg_read.specs.inner.Views.{place_tokens_views, node_view, place_view, weighed_view};
 
 use crate::marking::Marking;
 use crate::nodes::Node;

@@ -2,7 +2,7 @@
 
 ghost use Rattle.std.specs.Prelude.{◌≡◌};
 ghost use Rattle.astg_read.specs.Rows as rows;
-ghost use Rattle.astg_read.specs.LineResult.{IsKind};
+ghost use Rattle.astg_read.specs.inner.LineResult.{IsKind};
 
 use stg_net::Kind;
 

@@ -2,11 +2,12 @@
 
 ghost use Rattle.std.specs.Prelude.{◌≡◌, ◌++◌, ◌∷◌, ◌≤◌, ◌<◌, ◌^◌, [], drop, length, IfOk, OnOk};
 ghost use Rattle.std.specs.List.{list_any};
-ghost use Rattle.astg_read.specs.Header.{without_dummies};
+ghost use Rattle.astg_read.specs.inner.NoDummies.{without_dummies};
 ghost use Rattle.astg_read.specs.Markings as markings;
-ghost use Rattle.astg_read.specs.PlaceTokens as listed;
-ghost use Rattle.astg_read.specs.MarkingCheck.{IsSettled};
-ghost use Rattle.astg_read.specs.Views.{slices_view, place_tokens_views, texts};
+ghost use Rattle.astg_read.specs.inner.Fronts.{close_length};
+ghost use Rattle.astg_read.specs.inner.PlaceTokens as listed;
+ghost use Rattle.astg_read.specs.inner.MarkingCheck.{IsSettled};
+ghost use Rattle.astg_read.specs.inner.Views.{slices_view, place_tokens_views, texts};
 
 use crate::entries::entries_of;
 use crate::marking_check::MarkingCheck;
@@ -32,7 +33,7 @@ fn is_closing(word: &[u8]) -> bool
 
 /// How many words stand before the first `}`.
 fn close_length(words: &[&[u8]]) -> usize
-    ensures value { result ≡ markings.close_length (slices_view words.now) }
+    ensures value { result ≡ close_length (slices_view words.now) }
     ensures most { result ≤ length words.now }
 {
     for (i, word) in words.iter().enumerate() {
@@ -45,9 +46,9 @@ fn close_length(words: &[&[u8]]) -> usize
 
 /// The same, where none of the first words is one.
 fn close_length_after(first: usize, words: &[&[u8]]) -> usize
-    requires least { first ≤ markings.close_length (slices_view words.now) }
+    requires least { first ≤ close_length (slices_view words.now) }
     requires within { first ≤ length words.now }
-    ensures value { result ≡ markings.close_length (slices_view words.now) }
+    ensures value { result ≡ close_length (slices_view words.now) }
     ensures most { result ≤ length words.now }
 {
     first + close_length(&words[first..])
@@ -111,7 +112,7 @@ impl<'a> Model for Marking<'a> {
     ghost use Rattle.std.specs.List.{list_any};
     ghost use Rattle.astg_read.specs.Markings.{is_closing};
     ghost use Rattle.astg_read.specs.Rows.{Row};
-    ghost use Rattle.astg_read.specs.Views.{slices_view};
+    ghost use Rattle.astg_read.specs.inner.Views.{slices_view};
 
     ghost Value = { Row };
 

@@ -1,11 +1,11 @@
 //! The entries of a marking that later words don't change.
 
 ghost use Rattle.std.specs.Prelude.{◌≡◌, ◌<◌, ◌^◌, ◌||◌, not, [], zero, length, map, true, false, IfOk, OnOk};
-ghost use Rattle.astg_read.specs.Header.{without_dummies};
+ghost use Rattle.astg_read.specs.inner.NoDummies.{without_dummies};
 ghost use Rattle.astg_read.specs.Markings.{entries_after};
 ghost use Rattle.astg_read.specs.Markings as markings;
-ghost use Rattle.astg_read.specs.MarkingCheck.{IsSettled};
-ghost use Rattle.astg_read.specs.Views.{entry_view, place_view, slices_view};
+ghost use Rattle.astg_read.specs.inner.MarkingCheck.{IsSettled};
+ghost use Rattle.astg_read.specs.inner.Views.{entry_view, place_view, slices_view};
 
 use crate::entries::{
     Entry, front, is_whole, is_whole_place, named_place, starts_entry, tokens_of,

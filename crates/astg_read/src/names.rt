@@ -4,7 +4,7 @@ ghost use Rattle.std.specs.Prelude.{◌≡◌, ◌≤◌, ◌<◌, true, length,
 ghost use Rattle.std.specs.List.{list_all, prefix_len};
 ghost use Rattle.stg_net.specs.Names as forms;
 ghost use Rattle.astg_read.specs.Names as names;
-ghost use Rattle.astg_read.specs.Views.{trans_word_view};
+ghost use Rattle.astg_read.specs.inner.Views.{trans_word_view};
 
 use stg_net::Edge;
 

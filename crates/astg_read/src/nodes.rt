@@ -1,9 +1,9 @@
 //! The nodes of a graph.
 
 ghost use Rattle.std.specs.Prelude.{◌≡◌, ◌<◌, ◌^◌, [], length};
-ghost use Rattle.astg_read.specs.Header.{without_dummies};
+ghost use Rattle.astg_read.specs.inner.NoDummies.{without_dummies};
 ghost use Rattle.astg_read.specs.Nodes as nodes;
-ghost use Rattle.astg_read.specs.Views.{node_view};
+ghost use Rattle.astg_read.specs.inner.Views.{node_view};
 
 use crate::names::{is_name, read_trans_word};
 use crate::signals::Signals;

@@ -2,9 +2,9 @@
 
 ghost use Rattle.std.specs.Prelude.{◌≡◌, ◌<◌, ◌^◌, length, IfOk};
 ghost use Rattle.astg_read.specs.Graphs as graphs;
-ghost use Rattle.astg_read.specs.Header.{without_dummies};
-ghost use Rattle.astg_read.specs.PlaceTokens as listed;
-ghost use Rattle.astg_read.specs.Views.{entry_views, place_tokens_views, place_view};
+ghost use Rattle.astg_read.specs.inner.NoDummies.{without_dummies};
+ghost use Rattle.astg_read.specs.inner.PlaceTokens as listed;
+ghost use Rattle.astg_read.specs.inner.Views.{entry_views, place_tokens_views, place_view};
 
 use crate::entries::{Entry, named_place, tokens_of};
 use crate::signals::Signals;

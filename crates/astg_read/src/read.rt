@@ -1,16 +1,15 @@
 //! Reads a text line by line.
 
-ghost use Rattle.std.specs.Prelude.{◌≡◌, ◌≤◌, ◌<◌, ◌^◌, length};
+ghost use Rattle.std.specs.Prelude.{◌≡◌, ◌≤◌, ◌<◌, ◌^◌, length, false, IfErr, IfOk, OnOk};
 ghost use Rattle.astg_lex.specs.Lines as all_lines;
 ghost use Rattle.stg_net.specs.Names.{IsWellNamed};
 ghost use Rattle.stg_net.specs.Net.{IsWithin};
 ghost use Rattle.stg_net.specs.declared.limits.TheConstants.Limits.{PART, SPEC};
-ghost use Rattle.astg_read.specs.Construction.{AreLimits};
+ghost use Rattle.astg_read.specs.ReadLimits.{AreLimits};
 ghost use Rattle.astg_read.specs.Reading.{meaning_of, reading};
 ghost use Rattle.astg_read.specs.Reading as readings;
 ghost use Rattle.astg_read.specs.Standing.{IsUnreadBy, StandsFor, StandsForNet};
-ghost use Rattle.astg_read.specs.LineResult.{Gives, IsFaultless, said_of, nothing};
-ghost use Rattle.std.specs.Prelude.{false, IfErr, IfOk, OnOk};
+ghost use Rattle.astg_read.specs.inner.LineResult.{Gives, IsFaultless, said_of, nothing};
 
 use crate::finish::finish;
 use crate::line_error::LineError;

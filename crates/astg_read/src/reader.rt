@@ -2,13 +2,13 @@
 
 ghost use Rattle.std.specs.Prelude.{◌≡◌, ◌++◌, ◌∷◌, [], ◌<◌, ◌^◌, length, codes, true, false, drop, nat_lt, OnOk, ◌⊎◌};
 ghost use Rattle.std.specs.List.{list_any};
-ghost use Rattle.astg_read.specs.Header.{without_dummies};
+ghost use Rattle.astg_read.specs.inner.NoDummies.{without_dummies};
 ghost use Rattle.astg_read.specs.Graphs.{arcs};
 ghost use Rattle.astg_read.specs.Markings.{before_close, is_bad_marking, is_closing, is_unfinished};
 ghost use Rattle.astg_read.specs.Rows.{begins, begins_with_dot};
-ghost use Rattle.astg_read.specs.MarkingCheck.{IsSettled};
-ghost use Rattle.astg_read.specs.Views.{texts};
-ghost use Rattle.astg_read.specs.LineResult.{Says, Takes, ExtendsMarking, IsFaultless, IsSettledIn, nothing, said_of, directive, with_count};
+ghost use Rattle.astg_read.specs.inner.MarkingCheck.{IsSettled};
+ghost use Rattle.astg_read.specs.inner.Views.{texts};
+ghost use Rattle.astg_read.specs.inner.LineResult.{Says, Takes, ExtendsMarking, IsFaultless, IsSettledIn, nothing, said_of, directive, with_count};
 ghost use Rattle.astg_read.specs.Rules as line_rules;
 
 use crate::Rule;

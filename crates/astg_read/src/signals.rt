@@ -5,10 +5,10 @@ ghost use Rattle.std.specs.List.{list_all, list_any};
 ghost use Rattle.stg_net.specs.declared.builder.BuildError.TheVariants.{NoMemory as want};
 ghost use Rattle.stg_net.specs.Names as forms;
 ghost use Rattle.stg_net.specs.Net.{number_of};
-ghost use Rattle.astg_read.specs.Construction.{with_all_signals};
+ghost use Rattle.astg_read.specs.inner.Construction.{with_all_signals};
 ghost use Rattle.astg_read.specs.Header.{same_name, signals_of};
 ghost use Rattle.astg_read.specs.Lists.{with_new, has_repeat};
-ghost use Rattle.astg_read.specs.Views.{texts};
+ghost use Rattle.astg_read.specs.inner.Views.{texts};
 
 use crate::names::is_name;
 use astg_lex::Word;
@@ -26,7 +26,7 @@ pub struct Signals<'a> {
 impl<'a> Model for Signals<'a> {
     ghost use Rattle.std.specs.Prelude.{List, map};
     ghost use Rattle.stg_net.specs.declared.signal.Signal.{Signal};
-    ghost use Rattle.astg_read.specs.Views.{signal_view};
+    ghost use Rattle.astg_read.specs.inner.Views.{signal_view};
 
     ghost Value = { List Signal };
 

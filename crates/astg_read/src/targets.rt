@@ -2,10 +2,11 @@
 
 ghost use Rattle.std.specs.Prelude.{◌≡◌, ◌≤◌, ◌<◌, ◌^◌, [], ◌+◌, zero, length, IfOk};
 ghost use Rattle.std.specs.List.{list_all, list_any};
-ghost use Rattle.astg_read.specs.Header.{without_dummies};
+ghost use Rattle.astg_read.specs.inner.NoDummies.{without_dummies};
 ghost use Rattle.astg_read.specs.Nodes as nodes;
-ghost use Rattle.astg_read.specs.Views.{target_view, target_views, texts};
-ghost use Rattle.astg_read.specs.Targets.{front_target, target_words, targets_after, words_in};
+ghost use Rattle.astg_read.specs.inner.Views.{target_view, target_views, texts};
+ghost use Rattle.astg_read.specs.inner.Fronts.{front_target, target_words};
+ghost use Rattle.astg_read.specs.Targets.{targets_after, words_in};
 ghost use Rattle.astg_read.specs.Targets as forms;
 
 use crate::names::number;

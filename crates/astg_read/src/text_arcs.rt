@@ -2,10 +2,10 @@
 
 ghost use Rattle.std.specs.Prelude.{◌≡◌, ◌<◌, ◌^◌, length, filter_map, IfOk};
 ghost use Rattle.std.specs.List.{list_any};
-ghost use Rattle.astg_read.specs.Header.{without_dummies};
+ghost use Rattle.astg_read.specs.inner.NoDummies.{without_dummies};
 ghost use Rattle.astg_read.specs.Graphs as graphs;
 ghost use Rattle.astg_read.specs.Nodes as nodes;
-ghost use Rattle.astg_read.specs.Views.{node_view, text_arc_view, text_arc_views, target_views};
+ghost use Rattle.astg_read.specs.inner.Views.{node_view, text_arc_view, text_arc_views, target_views};
 
 use crate::nodes::{Node, node_of};
 use crate::signals::Signals;

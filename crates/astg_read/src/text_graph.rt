@@ -4,8 +4,8 @@ ghost use Rattle.std.specs.Prelude.{◌≡◌, ◌∷◌, [], ◌<◌, not, leng
 ghost use Rattle.std.specs.List.{list_any};
 ghost use Rattle.astg_read.specs.Graphs.{same_text_arc, same_place, arcs};
 ghost use Rattle.astg_read.specs.Graphs as graphs;
-ghost use Rattle.astg_read.specs.Growth.{with_node, with_between, with_text_arcs, with_targets, no_graph};
-ghost use Rattle.astg_read.specs.Views.{node_view, text_arc_view, text_arc_views, place_view, weighed_view};
+ghost use Rattle.astg_read.specs.inner.Growth.{with_node, with_between, with_text_arcs, with_targets, no_graph};
+ghost use Rattle.astg_read.specs.inner.Views.{node_view, text_arc_view, text_arc_views, place_view, weighed_view};
 
 use crate::nodes::Node;
 use crate::text_arcs::TextArc;
@@ -41,8 +41,8 @@ pub struct TextGraph<'a> {
 impl<'a> Model for TextGraph<'a> {
     ghost use Rattle.std.specs.Prelude.{◌≡◌, map, length, min, []};
     ghost use Rattle.astg_read.specs.Graphs.{arcs};
-    ghost use Rattle.astg_read.specs.Said.{GraphLists};
-    ghost use Rattle.astg_read.specs.Views.{place_view, weighed_view};
+    ghost use Rattle.astg_read.specs.inner.Growth.{GraphLists};
+    ghost use Rattle.astg_read.specs.inner.Views.{place_view, weighed_view};
 
     ghost Value = { GraphLists };
 

@@ -16,7 +16,8 @@ use Rattle.stg_net.specs.declared.trans.Edge.{Edge}
 use Rattle.stg_net.specs.declared.trans.Edge.TheVariants.{Rise, Fall, Toggle}
 use Rattle.astg_read.specs.Rows.{Word, begins_with_dot}
 use Rattle.astg_read.specs.Names.{WordOfTrans, edge_of, index_of, change_of, read_trans_word}
-use Rattle.astg_read.specs.Header.{Declared, without_dummies}
+use Rattle.astg_read.specs.Header.{Declared}
+use Rattle.astg_read.specs.inner.NoDummies.{without_dummies}
 use Rattle.astg_read.specs.Nodes.{Node, Trans, Place, node_of, trans_or_place, is_node, is_unknown, is_signal, is_trans_word, with_number, trans_of_word}
 use Rattle.astg_read.specs.Targets.{opens_group}
 use Rattle.astg_read.proofs.NumberLemmas.{position-none}

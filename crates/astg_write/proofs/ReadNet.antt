@@ -14,14 +14,14 @@ use Rattle.stg_net.specs.declared.arc.NetArc.{NetArc}
 use Rattle.stg_net.specs.Net.{NetLists, IsArcOf}
 use Rattle.stg_net.specs.Ordered.{listed_below, first_giver}
 use Rattle.astg_read.specs.Rows.{Row}
-use Rattle.astg_read.specs.Header.{without_dummies}
+use Rattle.astg_read.specs.inner.NoDummies.{without_dummies}
 use Rattle.astg_read.specs.Nodes.{same_trans, Trans, Place}
 use Rattle.astg_read.specs.Graphs.{PlaceAt, same_place, trans_number, place_number, arcs_of, arcs}
 use Rattle.astg_read.specs.Said.{Said}
 use Rattle.astg_read.specs.Markings.{entry_tokens, is_closing, entries_of, is_unfinished}
 use Rattle.astg_read.specs.Rules.{has_too_many, breaks_marking}
 use Rattle.astg_read.specs.Reading.{tokens_by}
-use Rattle.astg_read.specs.LineResult.{verdict}
+use Rattle.astg_read.specs.inner.LineResult.{verdict}
 use Rattle.astg_read.specs.declared.rule.Rule.TheVariants.{OutOfOrder, BadMarking}
 use Rattle.astg_read.proofs.NumberLemmas.{same_trans-refl}
 use Rattle.astg_read.proofs.Verdicts.{fault-marking, fault-end, two}

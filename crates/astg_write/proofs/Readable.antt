@@ -18,7 +18,7 @@ use Rattle.stg_net.specs.Net.{NetLists, IsNet, IsWithin, IsBefore, number_of}
 use Rattle.stg_net.specs.Names.{is_name}
 use Rattle.stg_net.specs.Words.{word_of, trans_word, name_at}
 use Rattle.stg_net.specs.Ordered.{first_giver}
-use Rattle.astg_read.specs.Header.{without_dummies}
+use Rattle.astg_read.specs.inner.NoDummies.{without_dummies}
 use Rattle.astg_read.specs.Nodes.{Trans, Place, same_trans}
 use Rattle.astg_read.proofs.ArcLemmas.{trans-eq}
 use Rattle.astg_write.specs.PlaceNames.{begins_with, numbered_name}

@@ -17,8 +17,8 @@ use Rattle.astg_read.specs.Graphs.{TextArc, text_arc_of, text_arcs_on, same_text
 use Rattle.astg_read.specs.Said.{Said}
 use Rattle.astg_read.specs.Markings.{is_unfinished}
 use Rattle.astg_read.specs.Rules.{has_too_many, has_dummy}
-use Rattle.astg_read.specs.GraphRules.{name_fault, text_arc_fault}
-use Rattle.astg_read.specs.Growth.{after_row}
+use Rattle.astg_read.specs.inner.GraphRules.{name_fault, text_arc_fault}
+use Rattle.astg_read.specs.inner.Growth.{after_row}
 use Rattle.astg_read.proofs.NodeLemmas.{fault-by_text_arcs, after-nodes}
 use Rattle.astg_write.proofs.WordForms.{number-decimal}
 use Rattle.astg_write.proofs.WrittenRows.{Aim, aim_words, weight_words}

@@ -16,11 +16,12 @@ use Rattle.stg_net.specs.Names.{is_name}
 use Rattle.astg_read.specs.declared.rule.Rule.TheVariants.{OutOfOrder, BadName, DeclaredTwice}
 use Rattle.astg_read.specs.Lists.{has_repeat}
 use Rattle.astg_read.specs.Rows.{Row, begins}
-use Rattle.astg_read.specs.Header.{without_dummies, signals_of, same_name}
+use Rattle.astg_read.specs.inner.NoDummies.{without_dummies}
+use Rattle.astg_read.specs.Header.{signals_of, same_name}
 use Rattle.astg_read.specs.Said.{Said}
 use Rattle.astg_read.specs.Rules.{has_too_many, has_dummy}
-use Rattle.astg_read.specs.Growth.{after_row}
-use Rattle.astg_read.specs.LineResult.{line_fault, directive}
+use Rattle.astg_read.specs.inner.Growth.{after_row}
+use Rattle.astg_read.specs.inner.LineResult.{line_fault, directive}
 use Rattle.astg_read.proofs.Verdicts.{fault-names, fault-model, fault-graph, three}
 use Rattle.astg_write.specs.ComponentText.{of_kind}
 use Rattle.astg_write.proofs.WrittenRows.{names_in, names_rows, header_rows, model_row}

@@ -16,7 +16,7 @@ use Rattle.stg_net.specs.Ordered.{listed_below, first_giver}
 use Rattle.stg_net.proofs.Buckets.{All-listed_below}
 use Rattle.astg_read.specs.Lists.{has_repeat, with_new, firsts}
 use Rattle.astg_read.specs.Rows.{Word}
-use Rattle.astg_read.specs.Header.{without_dummies}
+use Rattle.astg_read.specs.inner.NoDummies.{without_dummies}
 use Rattle.astg_read.specs.Nodes.{Node, Trans, Place, same_trans, same_node, is_place_node}
 use Rattle.astg_read.specs.Graphs.{TextArc, PlaceAt, Named, same_text_arc, same_place, node_trans as trans_of_node, node_place, place_between, node_arcs, arcs_of, arcs}
 use Rattle.astg_read.specs.Said.{Said, arcs_in}

@@ -10,8 +10,8 @@ use Rattle.astg_read.specs.Said.{Said, said}
 use Rattle.astg_read.specs.Markings.{is_unfinished}
 use Rattle.astg_read.specs.Rules.{Line, rules, first_broken, line_rules, has_too_many, has_dummy, ends_text}
 use Rattle.astg_read.specs.Reading.{Meaning, Fault, meaning_of, or_fault, reading_after}
-use Rattle.astg_read.specs.Growth.{after_row}
-use Rattle.astg_read.specs.LineResult.{line_fault, verdict}
+use Rattle.astg_read.specs.inner.Growth.{after_row}
+use Rattle.astg_read.specs.inner.LineResult.{line_fault, verdict}
 use Rattle.astg_read.proofs.GrowthLemmas.{said-after}
 use Rattle.astg_read.proofs.Verdicts.{verdict-outside}
 use Rattle.astg_write.proofs.WrittenWords.{good_line}

@@ -1,3 +1,4 @@
+-- What is promised.
 pub mod PlaceNames
 pub mod ComponentText
 pub mod Writable

@@ -7,7 +7,7 @@ use Rattle.desij.specs.Reading.{ReadsUpTo, ReadsWhole, most_read}
 use Rattle.desij.specs.Answering.{HasAnswer}
 use Rattle.stg_decomp.specs.declared.part.Part.{Part}
 use Rattle.desij.proofs.AnswerLemmas.{stands_short}
-use Rattle.desij.specs.Ends.{Ends, Finishes}
+use Rattle.desij.specs.inner.Ends.{Ends, Finishes}
 use Rattle.desij.specs.Run.{Seen, IsAccepted}
 use Rattle.desij.specs.declared.status.Status.{Status}
 use Rattle.desij.specs.declared.status.Status.TheVariants.{Done, BadWords, Refused, ReadFault, WriteFault, PrintFault, NoMemory, ServeFault}

@@ -8,7 +8,7 @@ use Rattle.stg_decomp.specs.declared.part.Part.{Part}
 use Rattle.stg_decomp.specs.Parts.{nets_of}
 use Rattle.desij.specs.Answering.{IsAcceptable, IsRefusable}
 use Rattle.desij.specs.Files.{HasParts, with_nets}
-use Rattle.desij.specs.Ends.{Ends}
+use Rattle.desij.specs.inner.Ends.{Ends}
 use Rattle.desij.specs.Outside.{Files, SeenSource, named}
 use Rattle.desij.specs.Reading.{ReadsUpTo, ReadsWhole, IsMissing, most_read}
 use Rattle.desij.specs.Run.{Seen, NoneRose, IsRefused, IsAccepted, TellsAccepted, TellsRefused, WritesParts, WritesComponents}

@@ -1,6 +1,6 @@
 -- Lists of names with their bytes.
-use Rattle.std.specs.Prelude.{◌≡◌, ℕ, ◌<◌, List, [], ◌∷◌, ◌++◌, length, Option, None, Some, MatchOption, slice_get, slice_set, if◌then◌else◌}
-use Rattle.std.specs.Option.{option_map, option_map_or}
+use Rattle.std.specs.Prelude.{ℕ, List, [], ◌∷◌, Option, None, Some, slice_get, if◌then◌else◌}
+use Rattle.std.specs.Option.{option_map_or}
 use Rattle.std.specs.FinMap.{from_entries}
 use Rattle.std.specs.Str.{bytes_eq}
 use Rattle.desij.specs.Outside.{Files}
@@ -22,15 +22,6 @@ bytes_of name (e ∷ es) = if bytes_eq name e.0 then Some e.1 else bytes_of name
 abbrev pub put_entry : List ℕ → List ℕ → List NamedBytes → List NamedBytes
 put_entry name bytes [] = (name, bytes) ∷ []
 put_entry name bytes (e ∷ es) = if bytes_eq name e.0 then (name, bytes) ∷ es else e ∷ put_entry name bytes es
-
--- the entries with this one at a place, or last
-abbrev pub put_at : Option ℕ → NamedBytes → List NamedBytes → List NamedBytes
-put_at None e es = es ++ e ∷ []
-put_at (Some i) e es = slice_set es i e
-
--- the place of the first entry of that name
-abbrev pub IsPlaceOf : List ℕ → List NamedBytes → Option ℕ → Type 0
-IsPlaceOf name es place = MatchOption place (bytes_of name es ≡ None) (λ i. (i < length es) × (bytes_of name es ≡ option_map (λ (e : NamedBytes). e.1) (slice_get es i)))
 
 -- the bytes of the entry at a place, none past the end
 abbrev pub bytes_at : List NamedBytes → ℕ → List ℕ

@@ -1,5 +1,5 @@
 -- The files of an answer.
-use Rattle.std.specs.Prelude.{◌≡◌, ℕ, ◌+◌, ◌<◌, ◌≤◌, zero, suc, List, ◌++◌, length, Option, Result, Ok, Err, slice_index_or, codes, decimal}
+use Rattle.std.specs.Prelude.{◌≡◌, ℕ, ◌+◌, zero, suc, List, ◌++◌, Option, slice_index_or, codes, decimal}
 use Rattle.std.specs.Option.{option_map}
 use Rattle.std.specs.FinMap.{insert, remove}
 use Rattle.stg_net.specs.Net.{NetLists}
@@ -7,8 +7,6 @@ use Rattle.astg_write.specs.ComponentText.{component_text}
 use Rattle.stg_decomp.specs.Parts.{no_part, nets_of}
 use Rattle.desij.specs.Outside.{Files}
 use Rattle.stg_decomp.specs.declared.part.Part.{Part}
-use Rattle.desij.specs.declared.outside.PutError.{PutError}
-use Rattle.desij.specs.declared.outside.PutError.TheVariants as put_error
 
 -- the name of the k-th part's file, whose number is counted from 1
 abbrev pub part_name : ℕ → List ℕ
@@ -34,9 +32,3 @@ HasParts parts k old new = new ≡ option_map (with_nets (nets_of parts) k) old
 -- The files of the first k parts are set. Nothing is told of the next one, and all others are as they were.
 abbrev pub FailsAt : List Part → ℕ → Option Files → Option Files → Type 0
 FailsAt parts k old new = option_map (λ (m : Files). remove m (part_name k)) new ≡ option_map (λ (m : Files). remove (with_nets (nets_of parts) k m) (part_name k)) old
-
--- All files are set; or those before the one that failed; or some first ones, where memory ran out.
-abbrev pub PutsParts : List Part → Result (Unit {0}) PutError → Option Files → Option Files → Type 0
-PutsParts parts (Ok done) old new = HasParts parts (length parts) old new
-PutsParts parts (Err put_error.Failed) old new = (k : ℕ) × (k < length parts) × FailsAt parts k old new
-PutsParts parts (Err put_error.NoMemory) old new = (k : ℕ) × (k ≤ length parts) × HasParts parts k old new

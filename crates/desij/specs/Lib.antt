@@ -1,3 +1,4 @@
+-- What is promised.
 pub mod Outside
 pub mod Calls
 pub mod Entries
@@ -5,9 +6,9 @@ pub mod Memory
 pub mod Words
 pub mod Reading
 pub mod Answering
-pub mod Unmade
 pub mod Files
 pub mod Printing
 pub mod Statuses
 pub mod Run
-pub mod Ends
+-- What serves private functions alone.
+pub mod inner

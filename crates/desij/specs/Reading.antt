@@ -1,10 +1,8 @@
 -- What is read of a text, and why it isn't.
-use Rattle.std.specs.Prelude.{◌≡◌, ℕ, ◌+◌, ◌≤◌, ◌<◌, List, [], ◌++◌, length, None, Some, IsSome, IfSome, Result, IsErrOf}
+use Rattle.std.specs.Prelude.{◌≡◌, ℕ, ◌+◌, ◌≤◌, ◌<◌, List, [], ◌++◌, length, None, Some, IsSome, IfSome}
 use Rattle.std.specs.Option.{option_map}
 use Rattle.stg_net.specs.declared.limits.TheConstants.Limits.{SPEC}
-use Rattle.desij.specs.Outside.{SeenSource, Rose, named}
-use Rattle.desij.specs.declared.reading.TextError.{TextError}
-use Rattle.desij.specs.declared.reading.TextError.TheVariants as text_error
+use Rattle.desij.specs.Outside.{SeenSource, named}
 
 -- so many bytes are read at most: one more than a text may have
 abbrev pub most_read : ℕ
@@ -27,9 +25,3 @@ pub record ReadsWhole (name text : List ℕ) (old new : SeenSource) : Type 0 whe
 pub record IsMissing (name : List ℕ) (seen : SeenSource) : Type 0 where
   pub told : IsSome seen.texts
   pub unnamed : named seen.texts name ≡ None
-
--- the count of faults never falls; a failure comes only where it rose, and a missing text only where the texts are told and none has that name
-pub record HasTextCause {T : Type 0} (name : List ℕ) (result : Result T TextError) (old new : SeenSource) : Type 0 where
-  pub later : old.faults ≤ new.faults
-  pub failed : IsErrOf result text_error.Failed → Rose old.faults new.faults
-  pub missing : IsErrOf result text_error.Missing → IsMissing name old

@@ -8,7 +8,7 @@ ghost use Rattle.stg_decomp.specs.declared.part.Part.{Part};
 ghost use Rattle.astg_write.specs.Writable.{IsWritable};
 ghost use Rattle.astg_read.specs.Standing.{StandsFor, IsUnread};
 ghost use Rattle.desij.specs.Answering.{HasAnswer};
-ghost use Rattle.desij.specs.Unmade.{IsTold};
+ghost use Rattle.desij.specs.inner.Unmade.{IsTold};
 
 use crate::printing::{clash_text, refusal_text};
 use astg_read::{ReadError, Rule, read_spec};

@@ -1,7 +1,8 @@
 //! Lists of names with bytes, searched and changed by name.
 
 ghost use Rattle.std.specs.Prelude.{◌≡◌, OnOk, OnErr, List, ℕ};
-ghost use Rattle.desij.specs.Entries.{IsPlaceOf, put_at, put_entry};
+ghost use Rattle.desij.specs.inner.EntryPlaces.{IsPlaceOf, put_at};
+ghost use Rattle.desij.specs.Entries.{put_entry};
 
 use std::alloc::Global;
 use stg_net::{NoMemory, Seq, Text};

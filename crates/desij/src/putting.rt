@@ -5,7 +5,8 @@ ghost use Rattle.std.specs.String.{string_bytes};
 ghost use Rattle.astg_write.specs.Writable.{IsWritable};
 ghost use Rattle.stg_decomp.specs.Parts.{nets_of};
 ghost use Rattle.stg_decomp.specs.declared.part.Part.{Part};
-ghost use Rattle.desij.specs.Files.{PutsParts, net_bytes, part_name};
+ghost use Rattle.desij.specs.inner.Ends.{PutsParts};
+ghost use Rattle.desij.specs.Files.{net_bytes, part_name};
 ghost use Rattle.desij.specs.Outside.{HasPutCause, Puts};
 
 use crate::outside::{PutError, Shelf};

@@ -3,7 +3,8 @@
 ghost use Rattle.std.specs.Prelude.{◌≡◌, ℕ, ◌+◌, ◌<◌, ◌≤◌, ◌++◌, List, [], length, IfOk, IfSome, IsErrOf};
 ghost use Rattle.std.specs.Option.{option_map};
 ghost use Rattle.desij.specs.Outside.{Rose};
-ghost use Rattle.desij.specs.Reading.{HasTextCause, ReadsUpTo};
+ghost use Rattle.desij.specs.inner.Ends.{HasTextCause};
+ghost use Rattle.desij.specs.Reading.{ReadsUpTo};
 
 use crate::outside::{Failed, Source};
 use std::alloc::Global;

@@ -16,7 +16,7 @@ use Rattle.stg_laws.specs.Deterministic.{AreRivals}
 use Rattle.stg_laws.specs.Conflict.{HasNoAutoConflict}
 use Rattle.stg_conflict.specs.declared.clash.Clash.{Clash}
 use Rattle.stg_conflict.specs.Clash.{IsClash, IsLeastClash}
-use Rattle.stg_conflict.specs.Search.{have_label, are_clashing, least_clash}
+use Rattle.stg_conflict.specs.inner.Search.{have_label, are_clashing, least_clash}
 use Rattle.stg_conflict.proofs.Found.{Found, clash_of, trans_up, least_clash-sound, found-reached}
 
 -- the signal of each transition of a net is known

@@ -8,7 +8,7 @@ use Rattle.stg_net.specs.Net.{NetLists}
 use Rattle.stg_net.specs.Initial.{graph_of}
 use Rattle.stg_net.proofs.Examples.{into, from}
 use Rattle.stg_laws.specs.Conflict.{IsAutoConflict}
-use Rattle.stg_conflict.specs.Search.{least_clash}
+use Rattle.stg_conflict.specs.inner.Search.{least_clash}
 
 abbrev named : ℕ → Edge → ℕ → TransName
 named s edge index = record { signal = s; edge = edge; index = index }

@@ -4,7 +4,7 @@ use Rattle.std.proofs.lemmas.Bool.{cases_Bool, false≢true}
 use Rattle.std.proofs.lemmas.Bool.Decides.{nat_tests}
 use Rattle.stg_conflict.specs.declared.clash.Clash.{Clash}
 use Rattle.stg_conflict.specs.Clash.{IsLesser}
-use Rattle.stg_conflict.specs.Search.{is_lesser, lesser}
+use Rattle.stg_conflict.specs.inner.Search.{is_lesser, lesser}
 
 before_trans : (c d e : Clash) → IsLesser c d → IsLesser d e → IsLesser c e
 before_trans c d e p q = grind arith

@@ -1,2 +1,4 @@
+-- What is promised.
 pub mod Clash
-pub mod Search
+-- What serves private functions alone.
+pub mod inner

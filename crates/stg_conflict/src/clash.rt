@@ -1,7 +1,7 @@
 //! Clashes and their order.
 
 ghost use Rattle.std.specs.Prelude.{◌≡◌};
-ghost use Rattle.stg_conflict.specs.Search.{is_lesser, lesser};
+ghost use Rattle.stg_conflict.specs.inner.Search.{is_lesser, lesser};
 
 /// Two transitions of one label, and a place from which both take.
 #[derive(Clone, Copy, Debug, PartialEq, Eq)]

@@ -5,7 +5,7 @@ ghost use Rattle.stg_net.specs.declared.arc.NetArc.{NetArc};
 ghost use Rattle.stg_net.specs.Initial.{graph_of};
 ghost use Rattle.stg_laws.specs.Conflict.{HasNoAutoConflict};
 ghost use Rattle.stg_conflict.specs.Clash.{IsLeastClash};
-ghost use Rattle.stg_conflict.specs.Search.{have_label, are_clashing, first_clash, least_clash};
+ghost use Rattle.stg_conflict.specs.inner.Search.{have_label, are_clashing, first_clash, least_clash};
 
 use crate::Clash;
 use crate::clash::least_of;

@@ -1,3 +1,4 @@
+-- What is promised.
 pub mod Cuts
 pub mod Deterministic
 pub mod Conflict

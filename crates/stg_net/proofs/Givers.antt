@@ -3,7 +3,8 @@ use Rattle.std.proofs.Common.{◌≡◌, ℕ, zero, suc, ◌<◌, ◌==◌, ◌&
 use Rattle.std.proofs.Math.ListN.{set}
 use Rattle.std.proofs.lemmas.Bool.{cases_eq, ne_eqb}
 use Rattle.stg_net.specs.declared.arc.NetArc.{NetArc}
-use Rattle.stg_net.specs.Ordered.{listed_below, numbers_where, numbers_by, least_giver, givers_after}
+use Rattle.stg_net.specs.Ordered.{listed_below, numbers_where, numbers_by, least_giver}
+use Rattle.stg_net.specs.inner.LeastGivers.{givers_after}
 
 lesser : (b : Bool) (t u x y : ℕ) → x ≡ min t y → cond b (min u x) x ≡ min t (cond b (min u y) y)
 lesser true t u x y e = omega (arith, e)

@@ -1,3 +1,4 @@
+-- What is promised.
 pub mod Net
 pub mod LimitValues
 pub mod Names
@@ -12,3 +13,5 @@ pub mod Graph
 pub mod Run
 pub mod Contraction
 pub mod Initial
+-- What serves private functions alone.
+pub mod inner

@@ -1,5 +1,5 @@
 -- The order in which a net is written: the same net with other numbers.
-use Rattle.std.specs.Prelude.{ℕ, ◌+◌, min, zero, suc, Bool, ◌&&◌, ◌==◌, List, [], ◌∷◌, ◌++◌, length, map, filter, slice_index, slice_set, if◌then◌else◌}
+use Rattle.std.specs.Prelude.{ℕ, ◌+◌, min, zero, suc, Bool, ◌&&◌, ◌==◌, List, [], ◌∷◌, ◌++◌, length, map, filter, slice_index, if◌then◌else◌}
 use Rattle.std.specs.List.{position_or_len}
 use Rattle.stg_net.specs.declared.signal.Kind.{Kind}
 use Rattle.stg_net.specs.declared.signal.Kind.TheVariants.{Input, Output, Internal}
@@ -45,10 +45,6 @@ signal_order signals = signals_of_kind signals Input ++ signals_of_kind signals 
 abbrev pub least_giver : ℕ → ℕ → List NetArc → ℕ
 least_giver none p [] = none
 least_giver none p (a ∷ arcs) = if a.into && (a.place == p) then min a.trans (least_giver none p arcs) else least_giver none p arcs
-
--- the least giver so far of each place, after one more arc
-abbrev pub givers_after : NetArc → List ℕ → List ℕ
-givers_after a keys = if a.into then slice_set keys a.place (min a.trans (slice_index keys a.place)) else keys
 
 -- the first transition that gives to the place, or the number of transitions where none does
 abbrev pub first_giver : NetLists → ℕ → ℕ

@@ -5,7 +5,8 @@ ghost use Rattle.stg_net.specs.declared.limits.Limits.{Limits};
 ghost use Rattle.stg_net.specs.declared.arc.NetArc.{NetArc};
 ghost use Rattle.stg_net.specs.Net.{IsBefore, IsWithin, signal_at, is_kind};
 ghost use Rattle.stg_net.specs.Names.{IsWellNamed};
-ghost use Rattle.stg_net.specs.Ordered.{listed_below, signals_of_kind, signal_order, givers_after, first_giver, place_order, new_number, with_signal_number, with_place_number, arcs_at, arcs_moved};
+ghost use Rattle.stg_net.specs.Ordered.{listed_below, signals_of_kind, signal_order, first_giver, place_order, new_number, with_signal_number, with_place_number, arcs_at, arcs_moved};
+ghost use Rattle.stg_net.specs.inner.LeastGivers.{givers_after};
 ghost use Rattle.stg_net.specs.Ordered as lists;
 
 use crate::{Kind, Net, NetArc, NoMemory, Nums, Seq, Signal, TransName, numbers_below};

@@ -1,2 +1,4 @@
+-- What is promised.
 pub mod PlainGroups
-pub mod Joining
+-- What serves private functions alone.
+pub mod inner

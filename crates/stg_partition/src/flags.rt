@@ -1,7 +1,7 @@
 //! Which signals arcs bring to each group, at the places from which its own signals take.
 
 ghost use Rattle.std.specs.Prelude.{◌≡◌, ◌+◌, ◌*◌, ◌<◌, ◌≤◌, false, length, All, IfOk, IfSome};
-ghost use Rattle.stg_partition.specs.Joining.{brings, is_brought, AreFlaggedWith, AreFlags, IsJoining};
+ghost use Rattle.stg_partition.specs.inner.Joining.{brings, is_brought, AreFlaggedWith, AreFlags, IsJoining};
 
 use crate::join::{LeadersAndTakers, signal_of};
 use std::alloc::Global;

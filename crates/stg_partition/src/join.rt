@@ -3,7 +3,7 @@
 ghost use Rattle.std.specs.Prelude.{◌≡◌, ◌<◌, length, All, IfOk, IfSome};
 ghost use Rattle.stg_laws.specs.Stgs.{is_driven};
 ghost use Rattle.stg_laws.specs.Groups.{signal_of, is_driven_at};
-ghost use Rattle.stg_partition.specs.Joining.{own_taker, relabelled_leader, merged_leader, with_taker, leader_after, AreChanged, IsJoining};
+ghost use Rattle.stg_partition.specs.inner.Joining.{own_taker, relabelled_leader, merged_leader, with_taker, leader_after, AreChanged, IsJoining};
 
 use std::alloc::Global;
 use stg_net::{Kind, Net, NetArc, NoMemory, numbers_below};

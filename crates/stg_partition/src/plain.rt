@@ -2,7 +2,7 @@
 
 ghost use Rattle.std.specs.Prelude.{◌≡◌, ◌*◌, ◌<◌, ◌≤◌, ◌++◌, length, slice_index, IfOk, OnOk};
 ghost use Rattle.stg_net.specs.Ordered.{numbers_with};
-ghost use Rattle.stg_partition.specs.Joining.{is_known_by, group_of, is_leader, groups_at, groups_below};
+ghost use Rattle.stg_partition.specs.inner.Joining.{is_known_by, group_of, is_leader, groups_at, groups_below};
 ghost use Rattle.stg_partition.specs.PlainGroups.{ArePlainGroups, AreClosed, HasOneGrouping};
 
 use crate::Group;

@@ -9,7 +9,7 @@ use Rattle.stg_net.specs.Run.{IsEnabled, fired}
 use Rattle.stg_net.specs.Initial.{graph_of}
 use Rattle.stg_net.proofs.Examples.{celem}
 use Rattle.stg_net.proofs.Weights.{place_at-past}
-use Rattle.stg_token.specs.Pass.{is_held}
+use Rattle.stg_token.specs.inner.Pass.{is_held}
 
 abbrev places : List ℕ
 places = range_with_len 0 8

@@ -11,7 +11,7 @@ use Rattle.stg_net.specs.Graph.{takes, tokens_at}
 use Rattle.stg_net.specs.Run.{IsEnabled, fired}
 use Rattle.stg_net.specs.Initial.{goes, connects, weight_of, graph_of}
 use Rattle.stg_net.proofs.Weights.{Connects, ConnectingArc, goes_same, goes_itself, connects_parts, connects_whole, share, share_here, share_none, weight_of-cons, weight_of-arc, weight_of-connecting, takes-graph_of, gives-graph_of, tokens_at-initial, full_name_at-graph_of}
-use Rattle.stg_token.specs.Pass.{connects_trans, is_held, with_taken, with_given}
+use Rattle.stg_token.specs.inner.Pass.{connects_trans, is_held, with_taken, with_given}
 
 connects_own_place : (t : ℕ) (into : Bool) (a : NetArc) → connects_trans t into a ≡ true → connects into t a.place a ≡ true
 connects_own_place t into a e =

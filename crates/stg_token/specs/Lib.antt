@@ -1,1 +1,2 @@
-pub mod Pass
+-- What serves private functions alone.
+pub mod inner

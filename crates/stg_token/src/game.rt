@@ -5,7 +5,7 @@ ghost use Rattle.stg_net.specs.Graph.{tokens_at};
 ghost use Rattle.stg_net.specs.Run.{IsEnabled, fired};
 ghost use Rattle.stg_net.specs.Initial.{graph_of, weight_of};
 ghost use Rattle.stg_net.specs.declared.arc.NetArc.{NetArc};
-ghost use Rattle.stg_token.specs.Pass.{connects_trans, is_held, with_taken, with_given};
+ghost use Rattle.stg_token.specs.inner.Pass.{connects_trans, is_held, with_taken, with_given};
 
 use std::alloc::Global;
 use stg_net::{Net, NetArc, NoMemory, Nums, Seq};

@@ -1,5 +1,5 @@
 use Rattle.std.proofs.Common.{◌∙◌, sym, ap, arith}
-use Rattle.astg_lex.specs.Words.{word_and_rest}
+use Rattle.astg_lex.specs.inner.Lengths.{word_and_rest}
 use Rattle.astg_lex.proofs.WordLemmas.{run_length-most, words_at-joined}
 use Rattle.astg_lex.proofs.measures.word_length.Goals as goal
 

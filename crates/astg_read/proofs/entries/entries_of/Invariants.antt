@@ -1,6 +1,6 @@
 use Rattle.std.proofs.Common.{◌≡◌, ◌++◌, zero, length}
 use Rattle.astg_read.specs.Markings.{entries_after}
-use Rattle.astg_read.specs.Views.{entry_views, slices_view}
+use Rattle.astg_read.specs.inner.Views.{entry_views, slices_view}
 use Rattle.astg_read.proofs.entries.entries_of.Given as goal
 
 abbrev pub invariant-loop-rest : goal.invariant-loop-rest

@@ -1,8 +1,8 @@
 use Rattle.std.proofs.Common.{◌≡◌, drop}
 use Rattle.astg_read.specs.Graphs.{same_text_arc}
 use Rattle.astg_read.specs.Lists.{has_repeat}
-use Rattle.astg_read.specs.Views.{text_arc_views}
-use Rattle.astg_read.specs.Growth.{with_text_arcs}
+use Rattle.astg_read.specs.inner.Views.{text_arc_views}
+use Rattle.astg_read.specs.inner.Growth.{with_text_arcs}
 use Rattle.astg_read.proofs.faults.add_text_arcs.Given as goal
 
 abbrev pub invariant-loop-text_arc : goal.invariant-loop-text_arc

@@ -1,5 +1,5 @@
 use Rattle.std.proofs.Common.{◌∙◌, map}
-use Rattle.astg_read.specs.Views.{place_view}
+use Rattle.astg_read.specs.inner.Views.{place_view}
 use Rattle.astg_read.proofs.ReadyLemmas.{next-first, next-ready, next-arcs}
 use Rattle.astg_read.proofs.finish.add_arcs.Goals as goal
 

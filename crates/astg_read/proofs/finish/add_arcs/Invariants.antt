@@ -1,7 +1,7 @@
 use Rattle.std.proofs.Common.{◌≡◌, map}
-use Rattle.astg_read.specs.Construction.{AreReady, with_all_arcs}
+use Rattle.astg_read.specs.inner.Construction.{AreReady, with_all_arcs}
 use Rattle.astg_read.specs.Graphs.{arcs}
-use Rattle.astg_read.specs.Views.{place_view, weighed_view}
+use Rattle.astg_read.specs.inner.Views.{place_view, weighed_view}
 use Rattle.astg_read.proofs.finish.add_arcs.Given as goal
 
 abbrev pub invariant-loop-ends : goal.invariant-loop-ends

@@ -3,7 +3,7 @@ use Rattle.stg_net.specs.declared.arc.NetArc.{NetArc}
 use Rattle.stg_net.specs.Building.{Building, HasEnds}
 use Rattle.astg_read.specs.Graphs.{TextArc, Between}
 use Rattle.astg_read.specs.Nodes.{Trans}
-use Rattle.astg_read.specs.Views.{place_view}
+use Rattle.astg_read.specs.inner.Views.{place_view}
 use Rattle.astg_read.proofs.ArcLemmas.{IsArcFrom, arc-new, second-fresh}
 use Rattle.astg_read.proofs.finish.add_both.Goals as goal
 

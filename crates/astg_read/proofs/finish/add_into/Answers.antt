@@ -2,7 +2,7 @@ use Rattle.std.proofs.Common.{arith, ◌≤◌, map, refl, sym, subst, unwrap_or
 use Rattle.stg_net.specs.declared.arc.NetArc.{NetArc}
 use Rattle.astg_read.specs.Graphs.{TextArc, Named}
 use Rattle.astg_read.specs.Nodes.{Trans, Place}
-use Rattle.astg_read.specs.Views.{place_view}
+use Rattle.astg_read.specs.inner.Views.{place_view}
 use Rattle.astg_read.proofs.ArcLemmas.{IsArcFrom, meets, weight-fits}
 use Rattle.astg_read.proofs.finish.add_into.Goals as goal
 

@@ -1,7 +1,7 @@
 use Rattle.std.proofs.Common.{◌≡◌, ◌+◌, ◌-◌, ◌≤◌, length, map, drop}
-use Rattle.astg_read.specs.Construction.{with_all_tokens}
-use Rattle.astg_read.specs.PlaceTokens.{tokens_for}
-use Rattle.astg_read.specs.Views.{place_tokens_views, place_view}
+use Rattle.astg_read.specs.inner.Construction.{with_all_tokens}
+use Rattle.astg_read.specs.inner.PlaceTokens.{tokens_for}
+use Rattle.astg_read.specs.inner.Views.{place_tokens_views, place_view}
 use Rattle.astg_read.proofs.finish.add_places.Given as goal
 
 abbrev pub invariant-loop-place : goal.invariant-loop-place

@@ -1,9 +1,9 @@
 use Rattle.std.proofs.Common.{◌≡◌, ◌+◌, ◌-◌, ◌≤◌, true, false, drop, length}
 use Rattle.std.specs.List.{list_all}
-use Rattle.astg_read.specs.Construction.{with_all_trans}
+use Rattle.astg_read.specs.inner.Construction.{with_all_trans}
 use Rattle.astg_read.specs.Lists.{has_repeat}
 use Rattle.astg_read.specs.Nodes.{same_trans}
-use Rattle.astg_read.specs.WellFormed.{is_trans_in}
+use Rattle.astg_read.specs.inner.WellFormed.{is_trans_in}
 use Rattle.astg_read.proofs.finish.add_trans.Given as goal
 
 abbrev pub invariant-loop-name : goal.invariant-loop-name

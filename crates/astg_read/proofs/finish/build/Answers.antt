@@ -1,5 +1,5 @@
-use Rattle.astg_read.specs.PlaceTokens.{tokens_for}
-use Rattle.astg_read.specs.Views.{place_tokens_views}
+use Rattle.astg_read.specs.inner.PlaceTokens.{tokens_for}
+use Rattle.astg_read.specs.inner.Views.{place_tokens_views}
 use Rattle.astg_read.proofs.ConstructionLemmas.{spec-from}
 use Rattle.astg_read.proofs.finish.build.Goals as goal
 

@@ -1,7 +1,7 @@
 use Rattle.std.proofs.Common.{◌∙◌, ◌≤◌, ap, sym, refl, subst, ℕ}
-use Rattle.astg_read.specs.PlaceTokens.{tokens_for}
-use Rattle.astg_read.specs.Views.{place_tokens_views}
-use Rattle.astg_read.specs.LineResult.{said_of}
+use Rattle.astg_read.specs.inner.PlaceTokens.{tokens_for}
+use Rattle.astg_read.specs.inner.Views.{place_tokens_views}
+use Rattle.astg_read.specs.inner.LineResult.{said_of}
 use Rattle.astg_read.proofs.FinishLemmas.{faultless-by, tokens-good, spec-of}
 use Rattle.astg_read.proofs.finish.finish.Goals as goal
 

@@ -6,9 +6,9 @@ use Rattle.stg_net.specs.declared.limits.Limits.{Limits}
 use Rattle.stg_net.specs.Net.{IsWithin}
 use Rattle.stg_net.specs.Building.{Building}
 use Rattle.astg_read.specs.Graphs.{arcs}
-use Rattle.astg_read.specs.PlaceTokens.{tokens_for}
+use Rattle.astg_read.specs.inner.PlaceTokens.{tokens_for}
 use Rattle.astg_read.specs.Reading.{place_name}
-use Rattle.astg_read.specs.Views.{place_tokens_views, place_view, weighed_view}
+use Rattle.astg_read.specs.inner.Views.{place_tokens_views, place_view, weighed_view}
 use Rattle.astg_read.proofs.ConstructionLemmas.{counts-within, counts-fit, ready-from}
 use Rattle.astg_read.proofs.finish.net_of.Goals as goal
 

@@ -1,6 +1,6 @@
 use Rattle.std.proofs.Common.{◌≡◌, ◌++◌, map, drop}
 use Rattle.astg_read.specs.Reading.{place_name}
-use Rattle.astg_read.specs.Views.{place_view}
+use Rattle.astg_read.specs.inner.Views.{place_view}
 use Rattle.astg_read.proofs.finish.place_names.Given as goal
 
 abbrev pub invariant-loop-place : goal.invariant-loop-place

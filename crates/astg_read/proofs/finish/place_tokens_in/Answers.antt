@@ -1,7 +1,7 @@
 use Rattle.std.proofs.Common.{◌∙◌, ap, sym}
-use Rattle.astg_read.specs.Header.{without_dummies}
+use Rattle.astg_read.specs.inner.NoDummies.{without_dummies}
 use Rattle.astg_read.specs.Markings.{entries_of}
-use Rattle.astg_read.specs.PlaceTokens.{tokens_for}
+use Rattle.astg_read.specs.inner.PlaceTokens.{tokens_for}
 use Rattle.astg_read.specs.Reading.{tokens_by}
 use Rattle.astg_read.proofs.PlaceTokensLemmas.{tokens-place_tokens}
 use Rattle.astg_read.proofs.finish.place_tokens_in.Goals as goal

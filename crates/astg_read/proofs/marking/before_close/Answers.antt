@@ -1,6 +1,6 @@
 use Rattle.std.proofs.Common.{ap, sym, ◌∙◌, take}
 use Rattle.std.proofs.lemmas.List.{take-map}
-use Rattle.astg_read.specs.Views.{slices_view}
+use Rattle.astg_read.specs.inner.Views.{slices_view}
 use Rattle.astg_read.proofs.CloseLemmas.{before-take}
 use Rattle.astg_read.proofs.marking.before_close.Goals as goal
 

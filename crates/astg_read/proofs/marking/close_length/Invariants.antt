@@ -1,6 +1,6 @@
 use Rattle.std.proofs.Common.{◌≡◌, ◌+◌, drop}
-use Rattle.astg_read.specs.Markings.{close_length}
-use Rattle.astg_read.specs.Views.{slices_view}
+use Rattle.astg_read.specs.inner.Fronts.{close_length}
+use Rattle.astg_read.specs.inner.Views.{slices_view}
 use Rattle.astg_read.proofs.marking.close_length.Given as goal
 
 abbrev pub invariant-loop-i : goal.invariant-loop-i

@@ -2,8 +2,8 @@ use Rattle.std.proofs.Common.{ap, sym, subst, ◌∙◌, ◌-◌, [], arith, tak
 use Rattle.std.proofs.lemmas.Bool.{eqb-false, lt-ltb, le-ltb}
 use Rattle.std.proofs.lemmas.List.{take-map}
 use Rattle.astg_read.specs.Markings.{entries_after, has_bad_entry}
-use Rattle.astg_read.specs.MarkingCheck.{IsSettled}
-use Rattle.astg_read.specs.Header.{without_dummies}
+use Rattle.astg_read.specs.inner.MarkingCheck.{IsSettled}
+use Rattle.astg_read.specs.inner.NoDummies.{without_dummies}
 use Rattle.astg_read.proofs.CloseLemmas.{followed, not-followed}
 use Rattle.astg_read.proofs.MarkingCheckLemmas.{before-slices_view, within-close, within-rest}
 use Rattle.astg_read.proofs.marking.is_bad_marking.Goals as goal

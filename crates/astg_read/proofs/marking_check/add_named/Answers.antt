@@ -2,7 +2,7 @@ use Rattle.std.proofs.Common.{ap, sym, ◌∙◌, map, option_map}
 use Rattle.std.specs.Option.{option_map_or}
 use Rattle.astg_read.specs.Lists.{with_new}
 use Rattle.astg_read.specs.Graphs.{same_place}
-use Rattle.astg_read.specs.Views.{place_view}
+use Rattle.astg_read.specs.inner.Views.{place_view}
 use Rattle.astg_read.proofs.GraphLemmas.{places-with_new}
 use Rattle.astg_read.proofs.marking_check.add_named.Goals as goal
 

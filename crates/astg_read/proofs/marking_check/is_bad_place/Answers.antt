@@ -2,7 +2,7 @@ use Rattle.std.proofs.Common.{ap, sym, ◌∙◌, ◌||◌, not, false, map, opt
 use Rattle.std.specs.List.{list_any}
 use Rattle.std.specs.Option.{option_map_or}
 use Rattle.astg_read.specs.Graphs.{same_place}
-use Rattle.astg_read.specs.Views.{place_view}
+use Rattle.astg_read.specs.inner.Views.{place_view}
 use Rattle.astg_read.proofs.GraphLemmas.{place-among}
 use Rattle.astg_read.proofs.marking_check.is_bad_place.Goals as goal
 

@@ -1,7 +1,7 @@
 use Rattle.std.proofs.Common.{◌≡◌, ◌++◌, drop}
-use Rattle.astg_read.specs.Header.{without_dummies}
-use Rattle.astg_read.specs.PlaceTokens.{place_tokens_of}
-use Rattle.astg_read.specs.Views.{entry_views, place_tokens_views}
+use Rattle.astg_read.specs.inner.NoDummies.{without_dummies}
+use Rattle.astg_read.specs.inner.PlaceTokens.{place_tokens_of}
+use Rattle.astg_read.specs.inner.Views.{entry_views, place_tokens_views}
 use Rattle.astg_read.proofs.place_tokens.place_tokens_of.Given as goal
 
 abbrev pub invariant-loop-entry : goal.invariant-loop-entry

@@ -1,6 +1,6 @@
 use Rattle.std.proofs.Common.{◌≡◌, drop}
-use Rattle.astg_read.specs.PlaceTokens.{tokens_for}
-use Rattle.astg_read.specs.Views.{place_tokens_views, place_view}
+use Rattle.astg_read.specs.inner.PlaceTokens.{tokens_for}
+use Rattle.astg_read.specs.inner.Views.{place_tokens_views, place_view}
 use Rattle.astg_read.proofs.place_tokens.tokens_for.Given as goal
 
 abbrev pub invariant-loop-one : goal.invariant-loop-one

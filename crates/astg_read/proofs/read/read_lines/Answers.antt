@@ -8,9 +8,9 @@ use Rattle.astg_read.specs.declared.rule.Rule.TheVariants.{BadByte}
 use Rattle.astg_read.specs.Said.{Said}
 use Rattle.astg_read.specs.Reading.{meaning_of, reading_after}
 use Rattle.astg_read.specs.Rules.{ends_text, seen_line}
-use Rattle.astg_read.specs.Views.{texts}
-use Rattle.astg_read.specs.Growth.{after_row}
-use Rattle.astg_read.specs.LineResult.{IsFaultless, Takes, said_of, verdict, said_up_to}
+use Rattle.astg_read.specs.inner.Views.{texts}
+use Rattle.astg_read.specs.inner.Growth.{after_row}
+use Rattle.astg_read.specs.inner.LineResult.{IsFaultless, Takes, said_of, verdict, said_up_to}
 use Rattle.astg_read.proofs.Faultless.{faultless-after, faultless-nothing, settled-none}
 use Rattle.astg_read.proofs.ReadLemmas.{Reached, step-broken, step-end, step-more, step-bad, reading-within}
 use Rattle.astg_read.proofs.read.read_lines.Goals as goal

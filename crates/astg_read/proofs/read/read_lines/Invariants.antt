@@ -1,6 +1,6 @@
 use Rattle.std.proofs.Common.{length}
 use Rattle.astg_lex.specs.Lexing.{text_left}
-use Rattle.astg_read.specs.LineResult.{IsFaultless, IsSettledIn, said_of}
+use Rattle.astg_read.specs.inner.LineResult.{IsFaultless, IsSettledIn, said_of}
 use Rattle.astg_read.proofs.ReadLemmas.{Reached}
 use Rattle.astg_read.proofs.read.read_lines.Given as goal
 

@@ -1,9 +1,9 @@
 use Rattle.std.proofs.Common.{sym, subst, drop}
-use Rattle.astg_read.specs.Header.{without_dummies}
+use Rattle.astg_read.specs.inner.NoDummies.{without_dummies}
 use Rattle.astg_read.specs.Markings.{before_close}
 use Rattle.astg_read.specs.Rows.{Row}
-use Rattle.astg_read.specs.MarkingCheck.{IsSettled}
-use Rattle.astg_read.specs.Views.{texts}
+use Rattle.astg_read.specs.inner.MarkingCheck.{IsSettled}
+use Rattle.astg_read.specs.inner.Views.{texts}
 use Rattle.astg_read.proofs.MarkingCheckLemmas.{settled-grown}
 use Rattle.astg_read.proofs.reader.extend_marking.Goals as goal
 

@@ -1,7 +1,7 @@
 use Rattle.std.proofs.Common.{◌≡◌, ◌++◌, drop}
 use Rattle.astg_read.specs.Header.{same_name, signals_of}
 use Rattle.astg_read.specs.Lists.{has_repeat}
-use Rattle.astg_read.specs.Views.{texts}
+use Rattle.astg_read.specs.inner.Views.{texts}
 use Rattle.astg_read.proofs.signals.add_names.Given as goal
 
 abbrev pub invariant-loop-name : goal.invariant-loop-name

@@ -1,7 +1,7 @@
 use Rattle.std.proofs.Common.{◌≡◌, drop}
 use Rattle.std.specs.List.{list_all}
 use Rattle.stg_net.specs.Names.{is_name}
-use Rattle.astg_read.specs.Views.{texts}
+use Rattle.astg_read.specs.inner.Views.{texts}
 use Rattle.astg_read.proofs.signals.are_names.Given as goal
 
 abbrev pub invariant-loop-word : goal.invariant-loop-word

@@ -1,6 +1,6 @@
 use Rattle.std.proofs.Common.{◌≡◌, drop}
 use Rattle.std.specs.List.{list_all}
-use Rattle.astg_read.specs.Views.{target_views}
+use Rattle.astg_read.specs.inner.Views.{target_views}
 use Rattle.astg_read.specs.Targets.{is_good_group}
 use Rattle.astg_read.proofs.targets.are_weighed.Given as goal
 

@@ -1,8 +1,8 @@
 use Rattle.std.proofs.Common.{◌≡◌, drop}
 use Rattle.std.specs.List.{list_any}
-use Rattle.astg_read.specs.Header.{without_dummies}
+use Rattle.astg_read.specs.inner.NoDummies.{without_dummies}
 use Rattle.astg_read.specs.Nodes as nodes
-use Rattle.astg_read.specs.Views.{target_views}
+use Rattle.astg_read.specs.inner.Views.{target_views}
 use Rattle.astg_read.specs.Targets.{words_in}
 use Rattle.astg_read.proofs.targets.have_unknown.Given as goal
 

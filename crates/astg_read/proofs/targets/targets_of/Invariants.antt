@@ -1,6 +1,6 @@
 use Rattle.std.proofs.Common.{◌≡◌, ◌++◌, zero, map, length}
 use Rattle.astg_read.specs.Targets.{targets_after}
-use Rattle.astg_read.specs.Views.{target_view, texts}
+use Rattle.astg_read.specs.inner.Views.{target_view, texts}
 use Rattle.astg_read.proofs.targets.targets_of.Given as goal
 
 abbrev pub invariant-loop-rest : goal.invariant-loop-rest

@@ -1,7 +1,7 @@
 use Rattle.std.proofs.Common.{◌≡◌, drop}
 use Rattle.std.specs.List.{list_any}
 use Rattle.astg_read.specs.Graphs.{is_between_places}
-use Rattle.astg_read.specs.Views.{text_arc_views}
+use Rattle.astg_read.specs.inner.Views.{text_arc_views}
 use Rattle.astg_read.proofs.text_arcs.any_between_places.Given as goal
 
 abbrev pub invariant-loop-text_arc : goal.invariant-loop-text_arc

@@ -1,7 +1,7 @@
 use Rattle.std.proofs.Common.{◌≡◌, ◌++◌, drop, filter_map}
-use Rattle.astg_read.specs.Header.{without_dummies}
+use Rattle.astg_read.specs.inner.NoDummies.{without_dummies}
 use Rattle.astg_read.specs.Graphs.{text_arc_of}
-use Rattle.astg_read.specs.Views.{text_arc_views, target_views}
+use Rattle.astg_read.specs.inner.Views.{text_arc_views, target_views}
 use Rattle.astg_read.proofs.text_arcs.text_arcs_of.Given as goal
 
 abbrev pub invariant-loop-target : goal.invariant-loop-target

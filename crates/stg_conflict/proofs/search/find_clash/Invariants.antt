@@ -1,5 +1,5 @@
 use Rattle.std.proofs.Common.{◌≡◌, drop}
-use Rattle.stg_conflict.specs.Search.{least_clash}
+use Rattle.stg_conflict.specs.inner.Search.{least_clash}
 use Rattle.stg_conflict.proofs.search.find_clash.Given as goal
 
 -- the least clash of the arcs from i on

@@ -1,5 +1,5 @@
 use Rattle.std.proofs.Common.{◌≡◌, drop}
-use Rattle.stg_conflict.specs.Search.{first_clash}
+use Rattle.stg_conflict.specs.inner.Search.{first_clash}
 use Rattle.stg_conflict.proofs.search.find_first.Given as goal
 
 -- what is left has the same first clash

@@ -1,6 +1,6 @@
 use Rattle.std.proofs.Common.{◌∙◌, ◌+◌, ◌*◌, ◌<◌, ◌&&◌, ◌||◌, ◌==◌, ℕ, true, false, Option, None, length, get_or, ap, sym, arith}
 use Rattle.std.proofs.Math.ListN.{set}
-use Rattle.stg_partition.specs.Joining.{is_led}
+use Rattle.stg_partition.specs.inner.Joining.{is_led}
 use Rattle.stg_partition.proofs.FlagLemmas.{flag_set}
 use Rattle.stg_partition.proofs.flags.flag_arc.Goals as goal
 

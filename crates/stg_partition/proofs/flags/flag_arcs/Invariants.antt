@@ -1,6 +1,6 @@
 use Rattle.std.proofs.Common.{◌≡◌, length, take}
 use Rattle.std.specs.List.{list_any}
-use Rattle.stg_partition.specs.Joining.{brings, AreFlaggedWith}
+use Rattle.stg_partition.specs.inner.Joining.{brings, AreFlaggedWith}
 use Rattle.stg_partition.proofs.flags.flag_arcs.Given as goal
 
 -- the flags of the arcs so far

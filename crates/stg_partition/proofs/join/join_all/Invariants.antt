@@ -1,4 +1,4 @@
-use Rattle.stg_partition.specs.Joining.{IsJoining}
+use Rattle.stg_partition.specs.inner.Joining.{IsJoining}
 use Rattle.stg_partition.proofs.join.join_all.Given as goal
 
 abbrev pub invariant-loop-arc : goal.invariant-loop-arc

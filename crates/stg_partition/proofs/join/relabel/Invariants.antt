@@ -1,5 +1,5 @@
 use Rattle.std.proofs.Common.{◌≡◌, ℕ, ◌<◌, ◌≤◌, get_or}
-use Rattle.stg_partition.specs.Joining.{relabelled_leader}
+use Rattle.stg_partition.specs.inner.Joining.{relabelled_leader}
 use Rattle.stg_partition.proofs.join.relabel.Given as goal
 
 abbrev pub invariant-loop-leader : goal.invariant-loop-leader

@@ -2,7 +2,7 @@ use Rattle.std.proofs.Common.{◌≡◌, ◌<◌, ℕ, false, true, length, get_
 use Rattle.std.specs.Prelude.{List}
 use Rattle.std.proofs.lemmas.Bool.{false≢true}
 use Rattle.stg_net.specs.declared.arc.NetArc.{NetArc}
-use Rattle.stg_token.specs.Pass.{is_held}
+use Rattle.stg_token.specs.inner.Pass.{is_held}
 use Rattle.stg_token.proofs.Passes.{unheld, held_enabled, held_more}
 use Rattle.stg_token.proofs.game.enabled.Goals as goal
 

@@ -1,6 +1,6 @@
 use Rattle.std.proofs.Common.{◌≡◌, ℕ, ◌<◌, true, get_or}
 use Rattle.stg_net.specs.declared.arc.NetArc.{NetArc}
-use Rattle.stg_token.specs.Pass.{is_held}
+use Rattle.stg_token.specs.inner.Pass.{is_held}
 use Rattle.stg_token.proofs.game.enabled.Given as goal
 
 -- the place of each arc so far holds what t takes by it

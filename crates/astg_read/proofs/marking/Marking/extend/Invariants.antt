@@ -1,5 +1,5 @@
 use Rattle.std.proofs.Common.{◌≡◌, ◌++◌, drop}
-use Rattle.astg_read.specs.Views.{texts}
+use Rattle.astg_read.specs.inner.Views.{texts}
 use Rattle.astg_read.proofs.marking.Marking.extend.Given as goal
 
 abbrev pub invariant-loop-word : goal.invariant-loop-word

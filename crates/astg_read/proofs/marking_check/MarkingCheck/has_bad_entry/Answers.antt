@@ -1,5 +1,5 @@
 use Rattle.std.proofs.Common.{◌∙◌, sym, refl, arith}
-use Rattle.astg_read.specs.Header.{without_dummies}
+use Rattle.astg_read.specs.inner.NoDummies.{without_dummies}
 use Rattle.astg_read.proofs.MarkingCheckLemmas.{bad-in, last-in, next-in, end-in}
 use Rattle.astg_read.proofs.marking_check.MarkingCheck.has_bad_entry.Goals as goal
 

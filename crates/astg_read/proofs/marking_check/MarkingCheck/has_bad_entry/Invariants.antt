@@ -1,7 +1,7 @@
 use Rattle.std.proofs.Common.{length, ◌-◌}
-use Rattle.astg_read.specs.Header.{without_dummies}
-use Rattle.astg_read.specs.MarkingCheck.{IsSettled}
-use Rattle.astg_read.specs.Views.{slices_view}
+use Rattle.astg_read.specs.inner.NoDummies.{without_dummies}
+use Rattle.astg_read.specs.inner.MarkingCheck.{IsSettled}
+use Rattle.astg_read.specs.inner.Views.{slices_view}
 use Rattle.astg_read.proofs.marking_check.MarkingCheck.has_bad_entry.Given as goal
 
 abbrev pub invariant-loop-self : goal.invariant-loop-self

@@ -1,12 +1,12 @@
 use Rattle.std.proofs.Common.{◌≡◌, ◌∙◌, ◌||◌, ◌∷◌, sym, ap, not, false, is_some, None, Some, filter_map}
-use Rattle.astg_read.specs.Header.{without_dummies}
-use Rattle.astg_read.specs.GraphRules.{name_fault, text_arc_fault}
-use Rattle.astg_read.specs.Said.{Said, GraphLists}
+use Rattle.astg_read.specs.inner.NoDummies.{without_dummies}
+use Rattle.astg_read.specs.inner.GraphRules.{name_fault, text_arc_fault}
+use Rattle.astg_read.specs.Said.{Said}
+use Rattle.astg_read.specs.inner.Growth.{GraphLists, with_node, with_targets, with_text_arcs}
 use Rattle.astg_read.specs.Graphs.{text_arc_of}
-use Rattle.astg_read.specs.Views.{texts, target_views, text_arc_views, node_view}
-use Rattle.astg_read.specs.Growth.{with_node, with_targets, with_text_arcs}
+use Rattle.astg_read.specs.inner.Views.{texts, target_views, text_arc_views, node_view}
 use Rattle.astg_read.specs.Targets.{words_in}
-use Rattle.astg_read.specs.LineResult.{said_of}
+use Rattle.astg_read.specs.inner.LineResult.{said_of}
 use Rattle.astg_read.proofs.NodeLemmas.{none-from, fault-by_names, fault-by_text_arcs, graph-said_up_to, said_up_to-nodes}
 use Rattle.astg_read.proofs.reader.Reader.take_nodes.Goals as goal
 

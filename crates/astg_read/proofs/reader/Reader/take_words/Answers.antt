@@ -1,7 +1,7 @@
 use Rattle.std.proofs.Common.{◌∷◌, sym, subst, refl}
 use Rattle.std.specs.Prelude.{codes}
-use Rattle.astg_read.specs.Views.{texts}
-use Rattle.astg_read.specs.LineResult.{Takes, said_of, directive}
+use Rattle.astg_read.specs.inner.Views.{texts}
+use Rattle.astg_read.specs.inner.LineResult.{Takes, said_of, directive}
 use Rattle.astg_read.proofs.LineResultLemmas.{says-with_count, titles-no_dummies, kinds-no_dummies, nodes-no_dummies, verdict-unknown}
 use Rattle.astg_read.proofs.reader.Reader.take_words.Goals as goal
 

@@ -1,7 +1,7 @@
 use Rattle.std.proofs.Common.{[], ◌∷◌, ◌++◌, List, not, map, ap, sym, ◌∙◌}
 use Rattle.stg_net.specs.declared.signal.Signal.{Signal}
 use Rattle.astg_read.specs.Header.{same_name}
-use Rattle.astg_read.specs.Views.{signal_view}
+use Rattle.astg_read.specs.inner.Views.{signal_view}
 use Rattle.astg_read.proofs.Keyed.{entries-new, with_new-found, with_new-new}
 use Rattle.astg_read.proofs.SignalLemmas.{found-signal, missing-signal}
 use Rattle.astg_read.proofs.signals.Signals.add.Goals as goal

@@ -1,8 +1,8 @@
 use Rattle.std.proofs.Common.{◌≡◌, ◌+◌, ◌≤◌, length, false, map}
-use Rattle.astg_read.specs.Construction.{with_all_signals}
+use Rattle.astg_read.specs.inner.Construction.{with_all_signals}
 use Rattle.astg_read.specs.Header.{same_name}
 use Rattle.astg_read.specs.Lists.{has_repeat}
-use Rattle.astg_read.specs.Views.{signal_view}
+use Rattle.astg_read.specs.inner.Views.{signal_view}
 use Rattle.astg_read.proofs.signals.Signals.add_to.Given as goal
 
 abbrev pub invariant-loop-name : goal.invariant-loop-name

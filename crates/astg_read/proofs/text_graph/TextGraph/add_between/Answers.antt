@@ -1,9 +1,8 @@
 use Rattle.std.proofs.Common.{map, ap, sym, ◌∙◌}
 use Rattle.astg_read.specs.declared.text_graph.TextPlace.TheVariants as read_place
 use Rattle.astg_read.specs.Nodes.{Trans}
-use Rattle.astg_read.specs.Said.{GraphLists}
-use Rattle.astg_read.specs.Growth.{with_between}
-use Rattle.astg_read.specs.Views.{node_view, place_view, weighed_view}
+use Rattle.astg_read.specs.inner.Growth.{GraphLists, with_between}
+use Rattle.astg_read.specs.inner.Views.{node_view, place_view, weighed_view}
 use Rattle.astg_read.proofs.GraphLemmas.{places-with_new}
 use Rattle.astg_read.proofs.text_graph.TextGraph.add_between.Goals as goal
 

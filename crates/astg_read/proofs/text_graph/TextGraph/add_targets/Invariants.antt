@@ -1,6 +1,6 @@
 use Rattle.std.proofs.Common.{◌≡◌, drop}
-use Rattle.astg_read.specs.Growth.{with_targets}
-use Rattle.astg_read.specs.Views.{text_arc_views}
+use Rattle.astg_read.specs.inner.Growth.{with_targets}
+use Rattle.astg_read.specs.inner.Views.{text_arc_views}
 use Rattle.astg_read.proofs.text_graph.TextGraph.add_targets.Given as goal
 
 abbrev pub invariant-loop-text_arc : goal.invariant-loop-text_arc

@@ -1,8 +1,7 @@
 use Rattle.std.proofs.Common.{[], ◌∷◌, not, min, length, map, ap, sym, ◌∙◌}
 use Rattle.astg_read.specs.Graphs.{arcs}
-use Rattle.astg_read.specs.Said.{GraphLists}
-use Rattle.astg_read.specs.Growth.{with_text_arcs}
-use Rattle.astg_read.specs.Views.{text_arc_view, place_view, weighed_view}
+use Rattle.astg_read.specs.inner.Growth.{GraphLists, with_text_arcs}
+use Rattle.astg_read.specs.inner.Views.{text_arc_view, place_view, weighed_view}
 use Rattle.astg_read.proofs.Keyed.{entries-new}
 use Rattle.astg_read.proofs.GraphLemmas.{found-text_arc, missing-text_arc, arc_total-more}
 use Rattle.astg_read.proofs.text_graph.TextGraph.add_text_arc.Goals as goal

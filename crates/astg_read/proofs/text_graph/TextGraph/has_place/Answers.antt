@@ -1,8 +1,8 @@
 use Rattle.std.proofs.Common.{ap, ◌∙◌}
 use Rattle.std.specs.List.{list_any}
 use Rattle.astg_read.specs.Graphs.{same_place}
-use Rattle.astg_read.specs.Said.{GraphLists}
-use Rattle.astg_read.specs.Views.{place_view}
+use Rattle.astg_read.specs.inner.Growth.{GraphLists}
+use Rattle.astg_read.specs.inner.Views.{place_view}
 use Rattle.astg_read.proofs.GraphLemmas.{place-among}
 use Rattle.astg_read.proofs.text_graph.TextGraph.has_place.Goals as goal
 

@@ -6,7 +6,13 @@ use Rattle.astg_read.specs.Lists.{firsts}
 use Rattle.astg_read.specs.Header.{Declared, signals_on, dummies_on}
 use Rattle.astg_read.specs.Nodes.{Node, same_trans}
 use Rattle.astg_read.specs.Graphs.{TextArc, PlaceAt, same_place, node_trans, node_place, place_between, trans_on, places_on, text_arcs_on}
-use Rattle.astg_read.specs.Said.{Said, GraphLists}
+use Rattle.astg_read.specs.Said.{Said}
+
+-- transitions and places in order of first appearance, and text arcs in their order
+pub record GraphLists : Type 0 where
+  pub trans : List TransName
+  pub places : List PlaceAt
+  pub text_arcs : List TextArc
 
 -- the names that a further line declares join
 abbrev pub with_names : Declared → Row → Declared

@@ -15,7 +15,7 @@ use Rattle.astg_read.specs.declared.text_graph.Ends.{Ends}
 use Rattle.astg_read.specs.declared.entries.Entry.{Entry as ReadEntry}
 use Rattle.astg_read.specs.declared.place_tokens.PlaceTokens.{PlaceTokens as ReadPlaceTokens}
 use Rattle.astg_read.specs.Markings.{Entry}
-use Rattle.astg_read.specs.PlaceTokens.{PlaceTokens}
+use Rattle.astg_read.specs.inner.PlaceTokens.{PlaceTokens}
 use Rattle.astg_read.specs.Names.{WordOfTrans}
 use Rattle.astg_read.specs.Rows.{Row}
 use Rattle.astg_read.specs.Nodes.{Node, Trans, Place}

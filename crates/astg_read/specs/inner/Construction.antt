@@ -1,12 +1,11 @@
 -- A net under construction, as the reader adds to it.
 use Rattle.std.specs.Prelude.{◌≡◌, ℕ, ◌+◌, ◌<◌, ◌≤◌, ◌^◌, List, ◌++◌, true, false, None, map, length}
 use Rattle.std.specs.List.Sorted.{IsPermutation}
-use Rattle.stg_net.specs.declared.limits.Limits.{Limits}
-use Rattle.stg_net.specs.declared.limits.TheConstants.Limits.{PART}
 use Rattle.stg_net.specs.Net.{IsNet}
 use Rattle.stg_net.specs.Spec.{SpecLists}
-use Rattle.astg_read.specs.Header.{without_dummies}
-use Rattle.astg_read.specs.Said.{Said, GraphLists}
+use Rattle.astg_read.specs.inner.NoDummies.{without_dummies}
+use Rattle.astg_read.specs.Said.{Said}
+use Rattle.astg_read.specs.inner.Growth.{GraphLists}
 use Rattle.astg_read.specs.Reading.{place_name}
 use Rattle.std.specs.List.{list_any, list_all}
 use Rattle.stg_net.specs.declared.signal.Signal.{Signal}
@@ -15,7 +14,7 @@ use Rattle.stg_net.specs.declared.arc.NetArc.{NetArc}
 use Rattle.stg_net.specs.Building.{Building}
 use Rattle.astg_read.specs.Lists.{has_repeat}
 use Rattle.astg_read.specs.Graphs.{TextArc, PlaceAt, arcs, arcs_of, same_text_arc}
-use Rattle.astg_read.specs.WellFormed.{IsTextArcIn, AreTextArcsIn, is_weighed}
+use Rattle.astg_read.specs.inner.WellFormed.{IsTextArcIn, AreTextArcsIn, is_weighed}
 
 -- the net under construction with these signals
 abbrev pub with_all_signals : Building → List Signal → Building
@@ -62,16 +61,6 @@ pub record AreReady (b : Building) (trans : List TransName) (all : List PlaceAt)
   pub weighed : list_all (is_weighed b.limits.weight) ps ≡ true
   pub fresh : has_repeat same_text_arc done ps ≡ false
   pub room : length b.lists.arcs + length (arcs trans all ps) ≤ b.limits.arcs
-
--- each limit is at most that of a component, and weights may be 1
-pub record AreLimits (l : Limits) : Type 0 where
-  pub bytes : l.bytes ≤ PART.bytes
-  pub signals : l.signals ≤ PART.signals
-  pub trans : l.trans ≤ PART.trans
-  pub places : l.places ≤ PART.places
-  pub arcs : l.arcs ≤ PART.arcs
-  pub weight : l.weight ≤ PART.weight
-  pub least : 1 ≤ l.weight
 
 -- what signals and a graph say
 abbrev pub said_by : List Signal → GraphLists → Said

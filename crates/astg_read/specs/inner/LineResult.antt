@@ -14,13 +14,13 @@ use Rattle.astg_read.specs.declared.kinds.LineKind.{LineKind}
 use Rattle.astg_read.specs.declared.kinds.LineKind.TheVariants as kinds
 use Rattle.astg_read.specs.declared.reader.Reader.{Reader}
 use Rattle.astg_read.specs.Rows.{Word, Row, begins_with_dot}
-use Rattle.astg_read.specs.Header.{without_dummies}
+use Rattle.astg_read.specs.inner.NoDummies.{without_dummies}
 use Rattle.astg_read.specs.Said.{Said}
 use Rattle.astg_read.specs.Markings.{before_close, is_bad_marking}
 use Rattle.astg_read.specs.Rules.{line_rules, first_broken, rules, breaks_directive, ends_text, has_too_many}
-use Rattle.astg_read.specs.MarkingCheck.{IsSettled}
-use Rattle.astg_read.specs.WellFormed.{IsWellFormed}
-use Rattle.astg_read.specs.Growth.{after_row}
+use Rattle.astg_read.specs.inner.MarkingCheck.{IsSettled}
+use Rattle.astg_read.specs.inner.WellFormed.{IsWellFormed}
+use Rattle.astg_read.specs.inner.Growth.{after_row}
 
 -- what the lines so far say, as the reader keeps it
 abbrev pub said_of : Reader → Said

@@ -5,7 +5,7 @@ use Rattle.astg_read.specs.Rows.{Row}
 use Rattle.astg_read.specs.Header.{Declared}
 use Rattle.astg_read.specs.Graphs.{PlaceAt}
 use Rattle.astg_read.specs.Markings.{entries_after, has_bad_entry}
-use Rattle.astg_read.specs.Views.{place_view}
+use Rattle.astg_read.specs.inner.Views.{place_view}
 
 -- With any words behind them, these words are as wrong as those after the settled ones, where the settled entries' places are named.
 pub record IsSettled (most : ℕ) (d : Declared) (places : List PlaceAt) (s : MarkingCheck) (words : Row) : Type 0 where
