@@ -7,7 +7,8 @@ use Rattle.std.proofs.lemmas.List.Concat.{length-flat_map}
 use Rattle.std.proofs.lemmas.List.Sums.{length-filter, sum_by-cons, sum_by-le}
 use Rattle.stg_net.specs.Graph.{Graph, takes, gives}
 use Rattle.stg_net.specs.Contraction.{pairs_round, places_before, places_after}
-use Rattle.stg_edit.specs.Walks.{weighted, taken_places, given_places}
+use Rattle.stg_arena.specs.WalkItems.{weighted}
+use Rattle.stg_edit.specs.Walks.{taken_places, given_places}
 use Rattle.stg_edit.specs.Replacing.{new_places, new_arcs, arcs_of_pair}
 use Rattle.stg_edit.proofs.Counted.{weighted_few}
 

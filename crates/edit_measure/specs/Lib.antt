@@ -1,2 +1,1 @@
--- What is promised.
 pub mod Measuring

@@ -11,8 +11,6 @@ pub fn count_takes(editor: &Editor, t: u32) -> u32
     requires { IsTrans editor.now.now t }
     ensures { result ≡ length (taken_places editor.now.now t) }
 {
-    // No more than there are places, and so they can be counted.
-    let _places = editor.next_place();
     editor.takes(t).count() as u32
 }
 
@@ -21,13 +19,11 @@ pub fn count_gives(editor: &Editor, t: u32) -> u32
     requires { IsTrans editor.now.now t }
     ensures { result ≡ length (given_places editor.now.now t) }
 {
-    let _places = editor.next_place();
     editor.gives(t).count() as u32
 }
 
 /// The number of arcs at a place, where it is live.
 fn arcs_at(editor: &Editor, p: u32) -> u64 {
-    let _trans = editor.all_trans();
     if editor.is_place(p) {
         (editor.takers(p).count() as u64).saturating_add(editor.givers(p).count() as u64)
     } else {

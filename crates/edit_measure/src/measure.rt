@@ -27,8 +27,6 @@ pub fn new_editor(alloc: Global, net: &Net) -> Result<Editor, NoMemory>
     requires { IsWithin PART net.now }
     ensures { IfOk result (λ e. IsLight e.now) }
 {
-    // The arcs of a net ascend, so no weight is a sum of two.
-    let _arcs = net.arcs();
     let editor = Editor::of(alloc, net, &Seq::new(alloc))?;
     Ok(editor)
 }

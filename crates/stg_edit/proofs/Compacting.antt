@@ -18,21 +18,24 @@ use Rattle.stg_net.specs.Initial.{weight_of, weight_list, place_of, graph_of}
 use Rattle.stg_net.specs.Ordered.{new_number, numbers_where}
 use Rattle.stg_net.proofs.Buckets.{numbers_where-filter, length-listed_below}
 use Rattle.stg_net.proofs.Maps.{AllPairs-map}
-use Rattle.stg_edit.specs.Editing.{Editing, name_in}
+use Rattle.stg_arena.specs.WalkItems.{weighted}
+use Rattle.stg_arena.proofs.Appends.{weighted_more}
+use Rattle.stg_edit.specs.Editing.{Editing, full_name_in}
 use Rattle.stg_edit.specs.Counted.{live_places, count_arcs_at, count_arcs}
-use Rattle.stg_edit.specs.Walks.{weighted}
 use Rattle.stg_edit.proofs.Counted.{sum_more}
-use Rattle.stg_edit.proofs.Grown.{weighted_more}
-use Rattle.stg_edit.specs.Compacted.{live_trans, packed, known_signals, signal_shown, IsNetOf}
-use Rattle.stg_edit.specs.Packing.{weighted_arc, arcs_between, row_arcs, IsBare, HasOwnNames, IsFit, IsShownBy, all_arcs}
+use Rattle.stg_edit.specs.Compacted.{live_trans, packed, known_signals, net_signal, IsNetOf}
+use Rattle.stg_edit.specs.inner.Packing.{weighted_arc, numbered_arcs, place_arcs, HaveNamesOf, all_arcs}
+use Rattle.stg_edit.specs.Drafts.{IsWeightlessWhereRemoved, HasOwnNames, IsDraft}
 use Rattle.stg_edit.proofs.Lists.{Contains-filter, Contains-range, map-after}
 use Rattle.stg_edit.proofs.Packing.{listed_taken, listed_given, listed_ascend, listed_there, below_range}
 
 -- numbers of a range that pass a test: below its end, and in ascending order
 module _ (q : ℕ → Bool) (n : ℕ) where
+  -- the numbers that pass are in range
   pub kept_below : All (λ k. k < n) (filter q (range_with_len 0 n))
   kept_below = All-filter q (λ k. k < n) (range_with_len 0 n) (below_range n)
 
+  -- they pass
   pub kept_pass : All (λ k. q k ≡ true) (filter q (range_with_len 0 n))
   kept_pass = filter_passes q (range_with_len 0 n)
 
@@ -41,6 +44,7 @@ module _ (q : ℕ → Bool) (n : ℕ) where
       let m : k + 1 < n = rw (← length-range_with_len 0 n) l in
       omega (arith, get_or-range_with_len 0 n k 0 (omega arith), get_or-range_with_len 0 n (k + 1) 0 m)
 
+  -- they ascend
   pub kept_ascend : AllPairs (λ x y. x < y) (filter q (range_with_len 0 n))
   kept_ascend = AllPairs-from_increasing (filter q (range_with_len 0 n)) (IsStrictlyIncreasing-filter q (range_with_len 0 n) range_increases)
 
@@ -54,11 +58,13 @@ module _ (q : ℕ → Bool) (n : ℕ) where
         | inr past ↦ absurd (false≢true (sym (fails_before_first (λ o. o == k) order at.0 k (omega (arith, at.1))) ∙ eq-eqb (get_or order at.0 k) k at.2))
       ]
 
+  -- each stands at its new number
   pub kept_at : (k d : ℕ) → k < n → q k ≡ true → get_or (filter q (range_with_len 0 n)) (new_number (filter q (range_with_len 0 n)) k) d ≡ k
   kept_at k d below pass =
       let order = filter q (range_with_len 0 n) in
       eqb-true (get_or order (new_number order k) d) k (passes_at_first (λ o. o == k) order d (kept_number k below pass))
 
+-- no more pass than there are
 pub few_kept : (q : ℕ → Bool) (n : ℕ) → length (filter q (range_with_len 0 n)) ≤ n
 few_kept q n = few q (range_with_len 0 n) n (length-range_with_len 0 n)
   where
@@ -67,49 +73,53 @@ few_kept q n = few q (range_with_len 0 n) n (length-range_with_len 0 n)
     few q (x ∷ xs) zero e = absurd (omega arith)
     few q (x ∷ xs) (suc n) e = let r = few q xs n (omega arith) in elim (cases_Bool (q x)) [ inl t ↦ rw t (omega (arith, r)) | inr f ↦ rw f (omega (arith, r)) ]
 
--- the name of a shown signal
-pub shown_name : (signals shown : List Signal) (kept : List ℕ) (j : ℕ) → IsShownBy signals kept shown → j < length shown → (signal_at shown j).name ≡ (signal_at signals (get_or kept j 0)).name
-shown_name signals shown kept j same below =
-    let long : length kept ≡ length shown = sym (length-map kept (λ s. (signal_at signals s).name)) ∙ sym (ap length same) ∙ length-map shown (λ (s : Signal). s.name) in
-    sym (get_or-map (λ (s : Signal). s.name) shown j (record { name = []; kind = Input }) [] below)
+-- the name of a signal of the net
+pub net_signal-name : (signals of_net : List Signal) (kept : List ℕ) (j : ℕ) → HaveNamesOf signals kept of_net → j < length of_net → (signal_at of_net j).name ≡ (signal_at signals (get_or kept j 0)).name
+net_signal-name signals of_net kept j same below =
+    let long : length kept ≡ length of_net = sym (length-map kept (λ s. (signal_at signals s).name)) ∙ sym (ap length same) ∙ length-map of_net (λ (s : Signal). s.name) in
+    sym (get_or-map (λ (s : Signal). s.name) of_net j (record { name = []; kind = Input }) [] below)
     ∙ ap (λ xs. get_or xs j []) same
     ∙ get_or-map (λ s. (signal_at signals s).name) kept j 0 [] (omega (arith, long))
 
-pub shown_long : (signals shown : List Signal) (kept : List ℕ) → IsShownBy signals kept shown → length shown ≡ length kept
-shown_long signals shown kept same = sym (length-map shown (λ (s : Signal). s.name)) ∙ ap length same ∙ length-map kept (λ s. (signal_at signals s).name)
+-- the net has as many signals as are kept
+pub net_signals-length : (signals of_net : List Signal) (kept : List ℕ) → HaveNamesOf signals kept of_net → length of_net ≡ length kept
+net_signals-length signals of_net kept same = sym (length-map of_net (λ (s : Signal). s.name)) ∙ ap length same ∙ length-map kept (λ s. (signal_at signals s).name)
 
-module _ (signals : List Signal) (g : Graph) (shown : List Signal) (name : TransName) (t : ℕ) (is : IsShownBy signals (known_signals signals g) shown) (there : name.signal < length signals) (named : full_name_at g t ≡ Some (name_in signals name)) (known : has_signal_of g.known (full_name_at g t) ≡ true) where
+module _ (signals : List Signal) (g : Graph) (of_net : List Signal) (name : TransName) (t : ℕ) (is : HaveNamesOf signals (known_signals signals g) of_net) (there : name.signal < length signals) (named : full_name_at g t ≡ Some (full_name_in signals name)) (known : has_signal_of g.known (full_name_at g t) ≡ true) where
   is_kept : is_among g.known (signal_at signals name.signal).name ≡ true
   is_kept = rw named at known
 
-  pub new_there : new_number (known_signals signals g) name.signal < length shown
-  new_there = omega (arith, shown_long signals shown (known_signals signals g) is, kept_number (λ s. is_among g.known (signal_at signals s).name) (length signals) name.signal there is_kept)
+  -- the new number of a known signal is in range
+  pub new_there : new_number (known_signals signals g) name.signal < length of_net
+  new_there = omega (arith, net_signals-length signals of_net (known_signals signals g) is, kept_number (λ s. is_among g.known (signal_at signals s).name) (length signals) name.signal there is_kept)
 
-  pub renamed : full_name_at g t ≡ Some (name_in shown (record name { signal = new_number (known_signals signals g) name.signal }))
+  -- a name with the new number of its signal is the same full name
+  pub renamed : full_name_at g t ≡ Some (full_name_in of_net (record name { signal = new_number (known_signals signals g) name.signal }))
   renamed =
-      let e = shown_name signals shown (known_signals signals g) (new_number (known_signals signals g) name.signal) is new_there in
+      let e = net_signal-name signals of_net (known_signals signals g) (new_number (known_signals signals g) name.signal) is new_there in
       let f = kept_at (λ s. is_among g.known (signal_at signals s).name) (length signals) name.signal 0 there is_kept in
-      let h : (signal_at shown (new_number (known_signals signals g) name.signal)).name ≡ (signal_at signals name.signal).name = e ∙ ap (λ s. (signal_at signals s).name) f in
+      let h : (signal_at of_net (new_number (known_signals signals g) name.signal)).name ≡ (signal_at signals name.signal).name = e ∙ ap (λ s. (signal_at signals s).name) f in
       named ∙ (λ i. Some (record { signal = sym h i; edge = name.edge; index = name.index }))
 
--- the signals that are shown have their names, which differ
-pub shown_by : (signals : List Signal) (own kept : List ℕ) → IsShownBy signals kept (map (signal_shown signals own) kept)
-shown_by signals own kept = sym (map-after (λ s. (signal_at signals s).name) (λ (s : Signal). s.name) (signal_shown signals own) (λ s. refl) kept)
+-- the signals of the net have their names, which differ
+pub names_of_kept : (signals : List Signal) (own kept : List ℕ) → HaveNamesOf signals kept (map (net_signal signals own) kept)
+names_of_kept signals own kept = sym (map-after (λ s. (signal_at signals s).name) (λ (s : Signal). s.name) (net_signal signals own) (λ s. refl) kept)
 
-pub shown_differ : (signals : List Signal) (own : List ℕ) (q : ℕ → Bool) → AllPairs (λ (s t : Signal). s.name ≢ t.name) signals → AllPairs (λ (s t : Signal). s.name ≢ t.name) (map (signal_shown signals own) (filter q (range_with_len 0 (length signals))))
-shown_differ signals own q differ =
+-- the signals of the net differ in name
+pub net_signals-differ : (signals : List Signal) (own : List ℕ) (q : ℕ → Bool) → AllPairs (λ (s t : Signal). s.name ≢ t.name) signals → AllPairs (λ (s t : Signal). s.name ≢ t.name) (map (net_signal signals own) (filter q (range_with_len 0 (length signals))))
+net_signals-differ signals own q differ =
     let kept = filter q (range_with_len 0 (length signals)) in
-    AllPairs-map (signal_shown signals own) (λ (s t : Signal). s.name ≢ t.name) kept
+    AllPairs-map (net_signal signals own) (λ (s t : Signal). s.name ≢ t.name) kept
     (λ i j d lt below. differ (get_or kept i d) (get_or kept j d) (record { name = []; kind = Input }) (kept_ascend q (length signals) i j d lt below) (kept_below q (length signals) j d below))
 
 -- names of live transitions that are listed differ
-pub listed_differ : (g : Graph) (shown : List Signal) (names : List TransName) (trans : List ℕ) → HasOwnNames g → All (λ t. IsTrans g t) trans → AllPairs (λ x y. x < y) trans → map (λ x. Some (name_in shown x)) names ≡ map (full_name_at g) trans → AllPairs (λ (s t : TransName). s ≢ t) names
-listed_differ g shown names trans own live ascend same i j d lt below e =
-    let long : length names ≡ length trans = sym (length-map names (λ x. Some (name_in shown x))) ∙ ap length same ∙ length-map trans (full_name_at g) in
+pub listed_differ : (g : Graph) (of_net : List Signal) (names : List TransName) (trans : List ℕ) → HasOwnNames g → All (λ t. IsTrans g t) trans → AllPairs (λ x y. x < y) trans → map (λ x. Some (full_name_in of_net x)) names ≡ map (full_name_at g) trans → AllPairs (λ (s t : TransName). s ≢ t) names
+listed_differ g of_net names trans own live ascend same i j d lt below e =
+    let long : length names ≡ length trans = sym (length-map names (λ x. Some (full_name_in of_net x))) ∙ ap length same ∙ length-map trans (full_name_at g) in
     let first : i < length names = omega arith in
-    let at : (k : ℕ) → k < length names → Some (name_in shown (get_or names k d)) ≡ full_name_at g (get_or trans k 0) =
-    λ k low. sym (get_or-map (λ x. Some (name_in shown x)) names k d None low) ∙ ap (λ xs. get_or xs k None) same ∙ get_or-map (full_name_at g) trans k 0 None (omega (arith, long)) in
-    let equal = own (get_or trans i 0) (get_or trans j 0) (live i 0 (omega (arith, long))) (sym (at i first) ∙ ap (λ x. Some (name_in shown x)) e ∙ at j below) in
+    let at : (k : ℕ) → k < length names → Some (full_name_in of_net (get_or names k d)) ≡ full_name_at g (get_or trans k 0) =
+    λ k low. sym (get_or-map (λ x. Some (full_name_in of_net x)) names k d None low) ∙ ap (λ xs. get_or xs k None) same ∙ get_or-map (full_name_at g) trans k 0 None (omega (arith, long)) in
+    let equal = own (get_or trans i 0) (get_or trans j 0) (live i 0 (omega (arith, long))) (sym (at i first) ∙ ap (λ x. Some (full_name_in of_net x)) e ∙ at j below) in
     omega (arith, equal, ascend i j 0 lt (omega (arith, long)))
 
 -- the place with its weights, read off the lists
@@ -125,9 +135,9 @@ place_same g n places trans q (Some x) tokens long arcs low here live =
     let given = weights true x.given (λ u below. listed_given g places trans u q below low ∙ ap (given_by (slice_index trans u)) here) in
     λ i. Some (record { tokens = count i; taken = taken i; given = given i })
 
-module _ (g : Graph) (n : NetLists) (places trans : List ℕ) (live : All (λ p. IsPlace g p) places) (tokens : n.tokens ≡ map (tokens_at g) places) (names : map (λ x. Some (name_in n.signals x)) n.trans ≡ map (full_name_at g) trans) (arcs : n.arcs ≡ all_arcs g places trans) where
+module _ (g : Graph) (n : NetLists) (places trans : List ℕ) (live : All (λ p. IsPlace g p) places) (tokens : n.tokens ≡ map (tokens_at g) places) (names : map (λ x. Some (full_name_in n.signals x)) n.trans ≡ map (full_name_at g) trans) (arcs : n.arcs ≡ all_arcs g places trans) where
   as_many : length n.trans ≡ length trans
-  as_many = sym (length-map n.trans (λ x. Some (name_in n.signals x))) ∙ ap length names ∙ length-map trans (full_name_at g)
+  as_many = sym (length-map n.trans (λ x. Some (full_name_in n.signals x))) ∙ ap length names ∙ length-map trans (full_name_at g)
 
   as_many_places : length n.tokens ≡ length places
   as_many_places = ap length tokens ∙ length-map places (tokens_at g)
@@ -139,6 +149,7 @@ module _ (g : Graph) (n : NetLists) (places trans : List ℕ) (live : All (λ p.
       let low : q < length places = omega (arith, as_many_places) in
       get_or-map (λ p. packed trans (place_at g p)) places q 0 None low ∙ place_same g n places trans q (place_at g (get_or places q 0)) tokens as_many arcs low refl (live q 0 low)))
 
+  -- the listed net is a net
   pub listed_net : HasOwnNames g → AllPairs (λ (s t : Signal). s.name ≢ t.name) n.signals → All (λ t. IsTrans g t) trans → AllPairs (λ x y. x < y) trans → All (λ (x : TransName). x.signal < length n.signals) n.trans → length n.signals < 2 ^ 32 → length trans < 2 ^ 32 → length places < 2 ^ 32 → IsNet n
   listed_net own differ live_t ascend there few_s few_t few_p = record {
     signal_names = differ;
@@ -165,57 +176,65 @@ none_hidden g none =
     ])
     (live_trans g) (kept_pass (λ t. is_some (full_name_at g t)) (length g.trans))
 
+-- the listed places live
 pub places_live : (g : Graph) → All (λ p. IsPlace g p) (live_places g)
 places_live g = kept_pass (λ p. is_some (place_at g p)) (length g.places)
 
+-- the listed transitions live
 pub trans_live : (g : Graph) → All (λ t. IsTrans g t) (live_trans g)
 trans_live g = kept_pass (λ t. is_some (full_name_at g t)) (length g.trans)
 
+-- the listed transitions are in range
 pub trans_below : (g : Graph) → All (λ t. t < length g.trans) (live_trans g)
 trans_below g = kept_below (λ t. is_some (full_name_at g t)) (length g.trans)
 
+-- the listed transitions fit 32 bits
 pub few_trans : (g : Graph) → length g.trans < 2 ^ 32 → length (live_trans g) < 2 ^ 32
 few_trans g fit = omega (arith, few_kept (λ t. is_some (full_name_at g t)) (length g.trans))
 
+-- the listed places fit 32 bits
 pub few_places : (g : Graph) → length g.places < 2 ^ 32 → length (live_places g) < 2 ^ 32
 few_places g fit = omega (arith, few_kept (λ p. is_some (place_at g p)) (length g.places))
 
-pub few_signals : (signals : List Signal) (own : List ℕ) (g : Graph) → length signals < 2 ^ 32 → length (map (signal_shown signals own) (known_signals signals g)) < 2 ^ 32
-few_signals signals own g fit = omega (arith, length-map (known_signals signals g) (signal_shown signals own), few_kept (λ s. is_among g.known (signal_at signals s).name) (length signals))
+-- the listed signals fit 32 bits
+pub few_signals : (signals : List Signal) (own : List ℕ) (g : Graph) → length signals < 2 ^ 32 → length (map (net_signal signals own) (known_signals signals g)) < 2 ^ 32
+few_signals signals own g fit = omega (arith, length-map (known_signals signals g) (net_signal signals own), few_kept (λ s. is_among g.known (signal_at signals s).name) (length signals))
 
 -- the lists that are listed for a draft
 pub record IsListed (e : Editing) (own : List ℕ) (n : NetLists) : Type 0 where
-  pub signals_are : n.signals ≡ map (signal_shown e.signals own) (known_signals e.signals e.now)
-  pub names_are : map (λ x. Some (name_in n.signals x)) n.trans ≡ map (full_name_at e.now) (live_trans e.now)
+  pub signals_are : n.signals ≡ map (net_signal e.signals own) (known_signals e.signals e.now)
+  pub names_are : map (λ x. Some (full_name_in n.signals x)) n.trans ≡ map (full_name_at e.now) (live_trans e.now)
   pub there : All (λ (x : TransName). x.signal < length n.signals) n.trans
   pub tokens_are : n.tokens ≡ map (tokens_at e.now) (live_places e.now)
   pub arcs_are : n.arcs ≡ all_arcs e.now (live_places e.now) (live_trans e.now)
 
-pub listed_shows : (e : Editing) (own : List ℕ) (n : NetLists) → IsListed e own n → IsNetOf e own n
-listed_shows e own n l = record {
+-- the listed net is that of the draft
+pub listed_is_net_of : (e : Editing) (own : List ℕ) (n : NetLists) → IsListed e own n → IsNetOf e own n
+listed_is_net_of e own n l = record {
   signals = l.signals_are;
   places = listed_places e.now n (live_places e.now) (live_trans e.now) (places_live e.now) l.tokens_are l.names_are l.arcs_are;
   trans = l.names_are;
 }
 
-pub listed_is_net : (e : Editing) (own : List ℕ) (n : NetLists) → IsFit e → IsListed e own n → IsNet n
+-- the listed net is a net
+pub listed_is_net : (e : Editing) (own : List ℕ) (n : NetLists) → IsDraft e → IsListed e own n → IsNet n
 listed_is_net e own n fit l =
     listed_net e.now n (live_places e.now) (live_trans e.now) (places_live e.now) l.tokens_are l.names_are l.arcs_are fit.trans_differ
-    (rw l.signals_are (shown_differ e.signals own (λ s. is_among e.now.known (signal_at e.signals s).name) fit.names_differ))
+    (rw l.signals_are (net_signals-differ e.signals own (λ s. is_among e.now.known (signal_at e.signals s).name) fit.names_differ))
     (trans_live e.now) (kept_ascend (λ t. is_some (full_name_at e.now t)) (length e.now.trans)) l.there
     (rw l.signals_are (few_signals e.signals own e.now fit.signals_fit)) (few_trans e.now fit.trans_fit) (few_places e.now fit.places_fit)
 
 -- the full name that is there
-abbrev name_in_it : FullName → Option FullName → FullName
-name_in_it d None = d
-name_in_it d (Some x) = x
+abbrev full_name_in_it : FullName → Option FullName → FullName
+full_name_in_it d None = d
+full_name_in_it d (Some x) = x
 
 -- full names that are equal are those of one transition
-pub same_names : (signals : List Signal) (names : List TransName) (i j : ℕ) (d : TransName) → AllPairs (λ (s t : Signal). s.name ≢ t.name) signals → AllPairs (λ (s t : TransName). s ≢ t) names → All (λ (t : TransName). t.signal < length signals) names → i < length names → j < length names → Some (name_in signals (get_or names i d)) ≡ Some (name_in signals (get_or names j d)) → i ≡ j
+pub same_names : (signals : List Signal) (names : List TransName) (i j : ℕ) (d : TransName) → AllPairs (λ (s t : Signal). s.name ≢ t.name) signals → AllPairs (λ (s t : TransName). s ≢ t) names → All (λ (t : TransName). t.signal < length signals) names → i < length names → j < length names → Some (full_name_in signals (get_or names i d)) ≡ Some (full_name_in signals (get_or names j d)) → i ≡ j
 same_names signals names i j d apart differ there low high e =
     let x = get_or names i d in
     let y = get_or names j d in
-    let f : name_in signals x ≡ name_in signals y = ap (name_in_it (name_in signals x)) e in
+    let f : full_name_in signals x ≡ full_name_in signals y = ap (full_name_in_it (full_name_in signals x)) e in
     let none : Signal = record { name = []; kind = Input } in
     let number : x.signal ≡ y.signal = elim (cases_order x.signal y.signal) [
       | inl same ↦ same
@@ -233,12 +252,15 @@ same_names signals names i j d apart differ there low high e =
       ]
     ]
 
+-- the known signals are listed
 pub known_listed : (signals : List Signal) (g : Graph) → numbers_where (λ s. is_among g.known (signal_at signals s).name) (length signals) ≡ known_signals signals g
 known_listed signals g = numbers_where-filter (λ s. is_among g.known (signal_at signals s).name) (length signals)
 
+-- the live places are listed
 pub places_listed : (g : Graph) → numbers_where (λ p. is_some (place_at g p)) (length g.places) ≡ live_places g
 places_listed g = numbers_where-filter (λ p. is_some (place_at g p)) (length g.places)
 
+-- the live transitions are listed
 pub trans_listed : (g : Graph) → numbers_where (λ t. is_some (full_name_at g t)) (length g.trans) ≡ live_trans g
 trans_listed g = numbers_where-filter (λ t. is_some (full_name_at g t)) (length g.trans)
 
@@ -247,10 +269,10 @@ pub all_of : (P : ℕ → Type 0) (xs ys : List ℕ) → xs ≡ ys → All P ys 
 all_of P xs ys same all = subst (All P) (sym same) all
 
 -- the lists, as the calls give them
-pub listed_from : (e : Editing) (own : List ℕ) (n : NetLists) (shown : List Signal) (kept trans places rows columns : List ℕ) → kept ≡ known_signals e.signals e.now → trans ≡ live_trans e.now → places ≡ live_places e.now → rows ≡ live_places e.now → columns ≡ live_trans e.now → n.signals ≡ map (signal_shown e.signals own) kept → shown ≡ n.signals → map (λ x. Some (name_in shown x)) n.trans ≡ map (full_name_at e.now) trans → All (λ (x : TransName). x.signal < length shown) n.trans → n.tokens ≡ map (tokens_at e.now) places → n.arcs ≡ all_arcs e.now rows columns → IsListed e own n
-listed_from e own n shown kept trans places rows columns k t p r c signals same names there tokens arcs = record {
-  signals_are = signals ∙ ap (map (signal_shown e.signals own)) k;
-  names_are = (λ i. map (λ x. Some (name_in (sym same i) x)) n.trans) ∙ names ∙ ap (map (full_name_at e.now)) t;
+pub listed_from : (e : Editing) (own : List ℕ) (n : NetLists) (of_net : List Signal) (kept trans places places_is trans_is : List ℕ) → kept ≡ known_signals e.signals e.now → trans ≡ live_trans e.now → places ≡ live_places e.now → places_is ≡ live_places e.now → trans_is ≡ live_trans e.now → n.signals ≡ map (net_signal e.signals own) kept → of_net ≡ n.signals → map (λ x. Some (full_name_in of_net x)) n.trans ≡ map (full_name_at e.now) trans → All (λ (x : TransName). x.signal < length of_net) n.trans → n.tokens ≡ map (tokens_at e.now) places → n.arcs ≡ all_arcs e.now places_is trans_is → IsListed e own n
+listed_from e own n of_net kept trans places places_is trans_is k t p r c signals same names there tokens arcs = record {
+  signals_are = signals ∙ ap (map (net_signal e.signals own)) k;
+  names_are = (λ i. map (λ x. Some (full_name_in (sym same i) x)) n.trans) ∙ names ∙ ap (map (full_name_at e.now)) t;
   there = subst (λ (xs : List Signal). All (λ (x : TransName). x.signal < length xs) n.trans) same there;
   tokens_are = tokens ∙ ap (map (tokens_at e.now)) p;
   arcs_are = arcs ∙ (λ i. all_arcs e.now (r i) (c i));
@@ -258,7 +280,7 @@ listed_from e own n shown kept trans places rows columns k t p r c signals same 
 
 -- how many arcs the lists have
 module _ (g : Graph) where
-  between_count : (p t q u : ℕ) → length (arcs_between g p t q u) ≡ min 1 (takes g t p) + min 1 (gives g t p)
+  between_count : (p t q u : ℕ) → length (numbered_arcs g p t q u) ≡ min 1 (takes g t p) + min 1 (gives g t p)
   between_count p t q u =
       let out : NetArc = record { place = q; trans = u; into = false; weight = takes g t p } in
       let back : NetArc = record { place = q; trans = u; into = true; weight = gives g t p } in
@@ -295,18 +317,19 @@ count_live f h q (suc n) dead =
     subst (λ k. length (weighted k f) + length (weighted k h) ≡ sum_by (λ t. min 1 (f t) + min 1 (h t)) (filter q (range_with_len 0 k))) (sym one) a)
 
 -- the listed arcs are as many as those of the draft
-pub count_listed : (g : Graph) → IsBare g → length (all_arcs g (live_places g) (live_trans g)) ≡ count_arcs g
-count_listed g bare =
+pub count_listed : (g : Graph) → IsWeightlessWhereRemoved g → length (all_arcs g (live_places g) (live_trans g)) ≡ count_arcs g
+count_listed g weightless =
     let h : ℕ → ℕ → ℕ = λ p t. min 1 (takes g t p) + min 1 (gives g t p) in
-    let in_row : (p q : ℕ) → length (row_arcs g (live_trans g) p q) ≡ count_arcs_at g p =
+    let in_row : (p q : ℕ) → length (place_arcs g (live_trans g) p q) ≡ count_arcs_at g p =
     λ p q.
-    length-listed_below (λ u. arcs_between g p (slice_index (live_trans g) u) q u) (length (live_trans g))
+    length-listed_below (λ u. numbered_arcs g p (slice_index (live_trans g) u) q u) (length (live_trans g))
     ∙ (λ i. sum_by (λ u. between_count g p (slice_index (live_trans g) u) q u i) (range_with_len 0 (length (live_trans g))))
     ∙ sum_at (h p) (live_trans g)
-    ∙ sym (count_live (λ t. takes g t p) (λ t. gives g t p) (λ t. is_some (full_name_at g t)) (length g.trans) (λ t low gone. bare t p low gone)) in
-    length-listed_below (λ q. row_arcs g (live_trans g) (slice_index (live_places g) q) q) (length (live_places g))
+    ∙ sym (count_live (λ t. takes g t p) (λ t. gives g t p) (λ t. is_some (full_name_at g t)) (length g.trans) (λ t low removed. weightless t p low removed)) in
+    length-listed_below (λ q. place_arcs g (live_trans g) (slice_index (live_places g) q) q) (length (live_places g))
     ∙ (λ i. sum_by (λ q. in_row (slice_index (live_places g) q) q i) (range_with_len 0 (length (live_places g))))
     ∙ sum_at (count_arcs_at g) (live_places g)
 
-pub listed_count : (e : Editing) (own : List ℕ) (n : NetLists) → IsFit e → IsListed e own n → length n.arcs ≡ count_arcs e.now
-listed_count e own n fit l = ap length l.arcs_are ∙ count_listed e.now fit.bare
+-- the listed net has as many arcs as the draft
+pub listed_count : (e : Editing) (own : List ℕ) (n : NetLists) → IsDraft e → IsListed e own n → length n.arcs ≡ count_arcs e.now
+listed_count e own n fit l = ap length l.arcs_are ∙ count_listed e.now fit.weightless

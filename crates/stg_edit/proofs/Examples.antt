@@ -3,13 +3,13 @@ use Rattle.std.proofs.Common.{◌≡◌, ℕ, List, [], ◌∷◌, Some, Option,
 use Rattle.stg_net.specs.declared.trans.Edge.TheVariants.{Rise}
 use Rattle.stg_net.specs.Graph.{Graph, Place, FullName}
 use Rattle.stg_net.specs.Contraction.{contracted, without_place}
-use Rattle.stg_edit.specs.Walks.{taken_places, given_places, taking_trans, giving_trans}
-use Rattle.stg_edit.specs.Replacing.{new_places, new_arcs}
-use Rattle.stg_edit.specs.Counted.{live_places, count_arcs}
-use Rattle.stg_edit.specs.Compacted.{live_trans, compacted, known_signals, signal_shown}
 use Rattle.stg_net.specs.declared.signal.Signal.{Signal}
 use Rattle.stg_net.specs.declared.signal.Kind.{Kind}
 use Rattle.stg_net.specs.declared.signal.Kind.TheVariants.{Input, Output, Internal}
+use Rattle.stg_edit.specs.Walks.{taken_places, given_places, taking_trans, giving_trans}
+use Rattle.stg_edit.specs.Replacing.{new_places, new_arcs}
+use Rattle.stg_edit.specs.Counted.{live_places, count_arcs}
+use Rattle.stg_edit.specs.Compacted.{live_trans, compacted, known_signals, net_signal}
 
 abbrev place : ℕ → List ℕ → List ℕ → Option Place
 place tokens taken given = Some (record { tokens = tokens; taken = taken; given = given })
@@ -63,13 +63,6 @@ arcs_after = refl
 arcs_without_a_place : count_arcs (without_place graph 0) ≡ 6
 arcs_without_a_place = refl
 
--- the signals h, x, b, a of a net, in its own order
-abbrev signal : ℕ → Kind → Signal
-signal c kind = record { name = c ∷ []; kind = kind }
-
-abbrev signals : List Signal
-signals = signal 104 Internal ∷ signal 120 Output ∷ signal 98 Internal ∷ signal 97 Output ∷ []
-
 keeps_three_transitions : live_trans after ≡ 0 ∷ 1 ∷ 3 ∷ []
 keeps_three_transitions = refl
 
@@ -79,6 +72,13 @@ packs_places = refl
 packs_transitions : (compacted after).trans ≡ rise 97 ∷ rise 98 ∷ rise 120 ∷ []
 packs_transitions = refl
 
+-- the signals h, x, b, a of a net, in its own order
+abbrev signal : ℕ → Kind → Signal
+signal c kind = record { name = c ∷ []; kind = kind }
+
+abbrev signals : List Signal
+signals = signal 104 Internal ∷ signal 120 Output ∷ signal 98 Internal ∷ signal 97 Output ∷ []
+
 -- x and b are own, a isn't, h isn't known
-shows_signals : map (signal_shown signals (1 ∷ 2 ∷ [])) (known_signals signals after) ≡ signal 120 Output ∷ signal 98 Internal ∷ signal 97 Input ∷ []
-shows_signals = refl
+makes_signals : map (net_signal signals (1 ∷ 2 ∷ [])) (known_signals signals after) ≡ signal 120 Output ∷ signal 98 Internal ∷ signal 97 Input ∷ []
+makes_signals = refl

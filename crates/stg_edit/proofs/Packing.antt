@@ -1,4 +1,4 @@
--- The arcs of a draft's net: rows of weights, the weights of the listed arcs, and their order.
+-- The arcs of a draft's net: lists of weights, the weights of the listed arcs, and their order.
 use Rattle.std.proofs.Common.{◌≡◌, ◌≢◌, ℕ, zero, suc, ◌+◌, ◌<◌, ◌≤◌, ◌⊎◌, ◌∷◌, ◌++◌, [], Bool, true, false, List, length, map, get_or, slice_index, set, All, AllPairs, ltb, refl, sym, ap, ◌∙◌, subst, inl, inr, arith, zero-add, append_assoc}
 use Rattle.std.specs.List.{range_with_len}
 use Rattle.std.proofs.lemmas.Bool.{cases_lt, cases_eq, cond_both, lt-ltb, le-ltb, false_from_ne_true}
@@ -14,35 +14,35 @@ use Rattle.stg_net.specs.Ordered.{listed_below}
 use Rattle.stg_net.proofs.Buckets.{All-listed_below}
 use Rattle.stg_net.proofs.Moved.{AllPairs-append}
 use Rattle.stg_net.proofs.Weights.{Connects, connects_parts, connects_whole, share, share_here, share_none, weight_of-cons}
-use Rattle.stg_edit.specs.Walks.{weighted_from, weighted}
-use Rattle.stg_edit.specs.Packing.{weighted_arc, arcs_between, row_arcs, all_arcs}
+use Rattle.stg_arena.specs.WalkItems.{weighted_from, weighted}
+use Rattle.stg_edit.specs.inner.Packing.{weighted_arc, numbered_arcs, place_arcs, all_arcs}
 
--- the row after these weights were written
+-- the list after these weights were written
 abbrev pub filled : List (ℕ × ℕ) → List ℕ → List ℕ
-filled [] row = row
-filled (x ∷ xs) row = filled xs (set row x.0 x.1)
+filled [] list = list
+filled (x ∷ xs) list = filled xs (set list x.0 x.1)
 
--- with the weights that are left, the row has the weights w
-pub record IsFilling (n : ℕ) (w : ℕ → ℕ) (row : List ℕ) (rest : List (ℕ × ℕ)) : Type 0 where
-  pub long : length row ≡ n
+-- with the weights that are left, the list has the weights w
+pub record IsFilling (n : ℕ) (w : ℕ → ℕ) (list : List ℕ) (rest : List (ℕ × ℕ)) : Type 0 where
+  pub long : length list ≡ n
   pub below : All (λ (x : ℕ × ℕ). x.0 < n) rest
-  pub right : (t : ℕ) → t < n → get_or (filled rest row) t 0 ≡ w t
+  pub right : (t : ℕ) → t < n → get_or (filled rest list) t 0 ≡ w t
 
-filled_right : (w : ℕ → ℕ) (k a : ℕ) (row : List ℕ) (t : ℕ) → a + k ≤ length row → t < a + k → (t < a → get_or row t 0 ≡ w t) → (a ≤ t → get_or row t 0 ≡ 0) → get_or (filled (weighted_from w a k) row) t 0 ≡ w t
-filled_right w zero a row t long low here later = here (omega arith)
-filled_right w (suc k) a row t long low here later =
+filled_right : (w : ℕ → ℕ) (k a : ℕ) (list : List ℕ) (t : ℕ) → a + k ≤ length list → t < a + k → (t < a → get_or list t 0 ≡ w t) → (a ≤ t → get_or list t 0 ≡ 0) → get_or (filled (weighted_from w a k) list) t 0 ≡ w t
+filled_right w zero a list t long low here later = here (omega arith)
+filled_right w (suc k) a list t long low here later =
     elim (cases_lt 0 (w a)) [
       | inl some ↦
           rw (lt-ltb 0 (w a) some)
-          (filled_right w k (a + 1) (set row a (w a)) t (omega (arith, length-set row a (w a))) (omega arith)
+          (filled_right w k (a + 1) (set list a (w a)) t (omega (arith, length-set list a (w a))) (omega arith)
           (λ h. elim (cases_eq t a) [
-            | inl e ↦ ap (λ z. get_or (set row a (w a)) z 0) e ∙ get_or-set_same row a (w a) 0 (omega arith) ∙ ap w (sym e)
-            | inr ne ↦ get_or-set_other row a t (w a) 0 ne ∙ here (omega arith)
+            | inl e ↦ ap (λ z. get_or (set list a (w a)) z 0) e ∙ get_or-set_same list a (w a) 0 (omega arith) ∙ ap w (sym e)
+            | inr ne ↦ get_or-set_other list a t (w a) 0 ne ∙ here (omega arith)
           ])
-          (λ h. get_or-set_other row a t (w a) 0 (λ e. absurd (omega arith)) ∙ later (omega arith)))
+          (λ h. get_or-set_other list a t (w a) 0 (λ e. absurd (omega arith)) ∙ later (omega arith)))
       | inr none ↦
           rw (le-ltb 0 (w a) none)
-          (filled_right w k (a + 1) row t (omega arith) (omega arith)
+          (filled_right w k (a + 1) list t (omega arith) (omega arith)
           (λ h. elim (cases_eq t a) [
             | inl e ↦ later (omega arith) ∙ (let z : 0 ≡ w a = omega arith in z) ∙ ap w (sym e)
             | inr ne ↦ here (omega arith)
@@ -50,38 +50,43 @@ filled_right w (suc k) a row t long low here later =
           (λ h. later (omega arith)))
     ]
 
+-- the numbers of a range are below its end
 pub below_range : (n : ℕ) → All (λ k. k < n) (range_with_len 0 n)
 below_range n k d below =
     let inside : k < n = omega (arith, length-range_with_len 0 n) in
     omega (arith, get_or-range_with_len 0 n k d inside)
 
+-- the numbers of a walk are below its end
 pub weighted_below : (n : ℕ) (w : ℕ → ℕ) → All (λ (x : ℕ × ℕ). x.0 < n) (weighted n w)
 weighted_below n w = All-filter (λ (x : ℕ × ℕ). ltb 0 x.1) (λ (x : ℕ × ℕ). x.0 < n) (map (λ k. (k, w k)) (range_with_len 0 n)) (All-map (λ (x : ℕ × ℕ). x.0 < n) (λ k. (k, w k)) (range_with_len 0 n) (below_range n))
 
-pub filling_starts : (n : ℕ) (w : ℕ → ℕ) (row : List ℕ) (rest : List (ℕ × ℕ)) → rest ≡ weighted n w → length row ≡ n → ((t : ℕ) → t < n → get_or row t 0 ≡ 0) → IsFilling n w row rest
-filling_starts n w row rest same long zeros = subst (IsFilling n w row) (sym same) (record {
+-- the list before the first weight
+pub filling_starts : (n : ℕ) (w : ℕ → ℕ) (list : List ℕ) (rest : List (ℕ × ℕ)) → rest ≡ weighted n w → length list ≡ n → ((t : ℕ) → t < n → get_or list t 0 ≡ 0) → IsFilling n w list rest
+filling_starts n w list rest same long zeros = subst (IsFilling n w list) (sym same) (record {
   long = long;
   below = weighted_below n w;
-  right = λ t low. filled_right w n 0 row t (omega arith) (omega arith) (λ h. absurd (omega arith)) (λ h. zeros t low);
+  right = λ t low. filled_right w n 0 list t (omega arith) (omega arith) (λ h. absurd (omega arith)) (λ h. zeros t low);
 })
 
-pub filling_goes_on : (n : ℕ) (w : ℕ → ℕ) (row : List ℕ) (x : ℕ × ℕ) (rest later : List (ℕ × ℕ)) → rest ≡ x ∷ later → IsFilling n w row rest → IsFilling n w (set row x.0 x.1) later
-filling_goes_on n w row x rest later same f =
-    let g = subst (IsFilling n w row) same f in
+-- the list with one more weight
+pub filling_goes_on : (n : ℕ) (w : ℕ → ℕ) (list : List ℕ) (x : ℕ × ℕ) (rest later : List (ℕ × ℕ)) → rest ≡ x ∷ later → IsFilling n w list rest → IsFilling n w (set list x.0 x.1) later
+filling_goes_on n w list x rest later same f =
+    let g = subst (IsFilling n w list) same f in
     record {
-      long = length-set row x.0 x.1 ∙ g.long;
+      long = length-set list x.0 x.1 ∙ g.long;
       below = λ k d low. g.below (suc k) d (omega arith);
       right = g.right;
     }
 
--- the next weight has its place in the row
-pub first_below : (n : ℕ) (w : ℕ → ℕ) (row : List ℕ) (x : ℕ × ℕ) (rest later : List (ℕ × ℕ)) → rest ≡ x ∷ later → IsFilling n w row rest → x.0 < length row
-first_below n w row x rest later same f =
-    let g = subst (IsFilling n w row) same f in
+-- the next weight has its place in the list
+pub first_below : (n : ℕ) (w : ℕ → ℕ) (list : List ℕ) (x : ℕ × ℕ) (rest later : List (ℕ × ℕ)) → rest ≡ x ∷ later → IsFilling n w list rest → x.0 < length list
+first_below n w list x rest later same f =
+    let g = subst (IsFilling n w list) same f in
     omega (arith, g.below 0 x (omega arith), g.long)
 
-pub filled_in : (n : ℕ) (w : ℕ → ℕ) (row : List ℕ) (rest : List (ℕ × ℕ)) → rest ≡ [] → IsFilling n w row rest → (t : ℕ) → t < n → get_or row t 0 ≡ w t
-filled_in n w row rest same f = (subst (IsFilling n w row) same f).right
+-- the list once all weights are written
+pub filled_in : (n : ℕ) (w : ℕ → ℕ) (list : List ℕ) (rest : List (ℕ × ℕ)) → rest ≡ [] → IsFilling n w list rest → (t : ℕ) → t < n → get_or list t 0 ≡ w t
+filled_in n w list rest same f = (subst (IsFilling n w list) same f).right
 
 -- one arc's part of a weight
 arc_share : (into : Bool) (t p : ℕ) (a : NetArc) → weight_of (weighted_arc a) into t p ≡ share into t p a
@@ -113,7 +118,7 @@ module _ (into : Bool) (t p : ℕ) (f : ℕ → List NetArc) where
   ]
 
 module _ (g : Graph) where
-  between_else : (into : Bool) (t p r s q u : ℕ) → (q ≢ p) ⊎ (u ≢ t) → weight_of (arcs_between g r s q u) into t p ≡ 0
+  between_else : (into : Bool) (t p r s q u : ℕ) → (q ≢ p) ⊎ (u ≢ t) → weight_of (numbered_arcs g r s q u) into t p ≡ 0
   between_else into t p r s q u apart =
       let out : NetArc = record { place = q; trans = u; into = false; weight = takes g s r } in
       let back : NetArc = record { place = q; trans = u; into = true; weight = gives g s r } in
@@ -124,7 +129,7 @@ module _ (g : Graph) where
         arc_else into t p back (λ j. elim apart [ inl n ↦ n j.place_is | inr n ↦ n j.trans_is ]),
       )
 
-  between_taken : (r s q u : ℕ) → weight_of (arcs_between g r s q u) false u q ≡ takes g s r
+  between_taken : (r s q u : ℕ) → weight_of (numbered_arcs g r s q u) false u q ≡ takes g s r
   between_taken r s q u =
       let out : NetArc = record { place = q; trans = u; into = false; weight = takes g s r } in
       let back : NetArc = record { place = q; trans = u; into = true; weight = gives g s r } in
@@ -133,7 +138,7 @@ module _ (g : Graph) where
       false_is_not_true : false ≡ true → ⊥
       false_is_not_true e = cc
 
-  between_given : (r s q u : ℕ) → weight_of (arcs_between g r s q u) true u q ≡ gives g s r
+  between_given : (r s q u : ℕ) → weight_of (numbered_arcs g r s q u) true u q ≡ gives g s r
   between_given r s q u =
       let out : NetArc = record { place = q; trans = u; into = false; weight = takes g s r } in
       let back : NetArc = record { place = q; trans = u; into = true; weight = gives g s r } in
@@ -143,20 +148,20 @@ module _ (g : Graph) where
       false_is_not_true e = cc
 
   module _ (places trans : List ℕ) where
-    row_else : (into : Bool) (u q r j : ℕ) → j ≢ q → weight_of (row_arcs g trans r j) into u q ≡ 0
-    row_else into u q r j apart = weight_nowhere into u q (λ v. arcs_between g r (slice_index trans v) j v) (length trans) (λ v h. between_else into u q r (slice_index trans v) j v (inl apart))
+    place_else : (into : Bool) (u q r j : ℕ) → j ≢ q → weight_of (place_arcs g trans r j) into u q ≡ 0
+    place_else into u q r j apart = weight_nowhere into u q (λ v. numbered_arcs g r (slice_index trans v) j v) (length trans) (λ v h. between_else into u q r (slice_index trans v) j v (inl apart))
 
-    in_row : (into : Bool) (u q : ℕ) → u < length trans → q < length places → weight_of (all_arcs g places trans) into u q ≡ weight_of (arcs_between g (slice_index places q) (slice_index trans u) q u) into u q
-    in_row into u q inside there =
-        weight_there into u q (λ j. row_arcs g trans (slice_index places j) j) (length places) q there (λ j apart. row_else into u q (slice_index places j) j apart)
-        ∙ weight_there into u q (λ v. arcs_between g (slice_index places q) (slice_index trans v) q v) (length trans) u inside (λ v apart. between_else into u q (slice_index places q) (slice_index trans v) q v (inr apart))
+    in_place : (into : Bool) (u q : ℕ) → u < length trans → q < length places → weight_of (all_arcs g places trans) into u q ≡ weight_of (numbered_arcs g (slice_index places q) (slice_index trans u) q u) into u q
+    in_place into u q inside there =
+        weight_there into u q (λ j. place_arcs g trans (slice_index places j) j) (length places) q there (λ j apart. place_else into u q (slice_index places j) j apart)
+        ∙ weight_there into u q (λ v. numbered_arcs g (slice_index places q) (slice_index trans v) q v) (length trans) u inside (λ v apart. between_else into u q (slice_index places q) (slice_index trans v) q v (inr apart))
 
     -- the listed arcs have the weights of the draft
     pub listed_taken : (u q : ℕ) → u < length trans → q < length places → weight_of (all_arcs g places trans) false u q ≡ takes g (slice_index trans u) (slice_index places q)
-    listed_taken u q inside there = in_row false u q inside there ∙ between_taken (slice_index places q) (slice_index trans u) q u
+    listed_taken u q inside there = in_place false u q inside there ∙ between_taken (slice_index places q) (slice_index trans u) q u
 
     pub listed_given : (u q : ℕ) → u < length trans → q < length places → weight_of (all_arcs g places trans) true u q ≡ gives g (slice_index trans u) (slice_index places q)
-    listed_given u q inside there = in_row true u q inside there ∙ between_given (slice_index places q) (slice_index trans u) q u
+    listed_given u q inside there = in_place true u q inside there ∙ between_given (slice_index places q) (slice_index trans u) q u
 
 -- what holds of the arc, if it has a weight
 weighted_all : (P : NetArc → Type 0) (a : NetArc) → (0 < a.weight → P a) → All P (weighted_arc a)
@@ -175,13 +180,13 @@ weighted_alone R a = elim (cases_lt 0 a.weight) [
   | inr none ↦ rw (le-ltb 0 a.weight none) (λ i j d lt low. absurd (omega arith))
 ]
 
-between_all : (P : NetArc → Type 0) (g : Graph) (r s q u : ℕ) → ((into : Bool) (w : ℕ) → 0 < w → P (record { place = q; trans = u; into = into; weight = w })) → All P (arcs_between g r s q u)
+between_all : (P : NetArc → Type 0) (g : Graph) (r s q u : ℕ) → ((into : Bool) (w : ℕ) → 0 < w → P (record { place = q; trans = u; into = into; weight = w })) → All P (numbered_arcs g r s q u)
 between_all P g r s q u holds =
     let out : NetArc = record { place = q; trans = u; into = false; weight = takes g s r } in
     let back : NetArc = record { place = q; trans = u; into = true; weight = gives g s r } in
     All-append P (weighted_arc out) (weighted_arc back) (weighted_all P out (holds false (takes g s r))) (weighted_all P back (holds true (gives g s r)))
 
-between_order : (g : Graph) (r s q u : ℕ) → AllPairs IsBefore (arcs_between g r s q u)
+between_order : (g : Graph) (r s q u : ℕ) → AllPairs IsBefore (numbered_arcs g r s q u)
 between_order g r s q u =
     let out : NetArc = record { place = q; trans = u; into = false; weight = takes g s r } in
     let back : NetArc = record { place = q; trans = u; into = true; weight = gives g s r } in
@@ -206,26 +211,28 @@ listed_order P key f (suc m) all each up =
     up (get_or (listed_below f m) i d) (get_or (f m) j d) x.0 y.0 (omega (arith, x.1, y.1)))
 
 module _ (g : Graph) (places trans : List ℕ) where
-  row_order : (r q : ℕ) → AllPairs IsBefore (row_arcs g trans r q)
-  row_order r q =
-      listed_order (λ a. a.place ≡ q) (λ a. a.trans) (λ u. arcs_between g r (slice_index trans u) q u) (length trans)
+  place_order : (r q : ℕ) → AllPairs IsBefore (place_arcs g trans r q)
+  place_order r q =
+      listed_order (λ a. a.place ≡ q) (λ a. a.trans) (λ u. numbered_arcs g r (slice_index trans u) q u) (length trans)
       (λ u. between_all (λ a. (a.place ≡ q) × (a.trans ≡ u)) g r (slice_index trans u) q u (λ into w some. (refl, refl)))
       (λ u. between_order g r (slice_index trans u) q u)
       (λ a b first second lt. inr (first ∙ sym second, inl lt))
 
-  row_places : (r q : ℕ) → All (λ (a : NetArc). (Unit {0}) × (a.place ≡ q)) (row_arcs g trans r q)
-  row_places r q = All-listed_below (λ (a : NetArc). (Unit {0}) × (a.place ≡ q)) (λ u. arcs_between g r (slice_index trans u) q u) (length trans)
+  places_of_arcs : (r q : ℕ) → All (λ (a : NetArc). (Unit {0}) × (a.place ≡ q)) (place_arcs g trans r q)
+  places_of_arcs r q = All-listed_below (λ (a : NetArc). (Unit {0}) × (a.place ≡ q)) (λ u. numbered_arcs g r (slice_index trans u) q u) (length trans)
       (λ u h. between_all (λ (a : NetArc). (Unit {0}) × (a.place ≡ q)) g r (slice_index trans u) q u (λ into w some. (tt, refl)))
 
+  -- the listed arcs ascend
   pub listed_ascend : AllPairs IsBefore (all_arcs g places trans)
   listed_ascend =
-      listed_order (λ a. Unit {0}) (λ a. a.place) (λ q. row_arcs g trans (slice_index places q) q) (length places)
-      (λ q. row_places (slice_index places q) q) (λ q. row_order (slice_index places q) q) (λ a b first second lt. inl lt)
+      listed_order (λ a. Unit {0}) (λ a. a.place) (λ q. place_arcs g trans (slice_index places q) q) (length places)
+      (λ q. places_of_arcs (slice_index places q) q) (λ q. place_order (slice_index places q) q) (λ a b first second lt. inl lt)
 
+  -- the listed arcs are between listed places and transitions
   pub listed_there : All (IsArcOf (length places) (length trans)) (all_arcs g places trans)
   listed_there =
-      All-listed_below (IsArcOf (length places) (length trans)) (λ q. row_arcs g trans (slice_index places q) q) (length places)
-      (λ q there. All-listed_below (IsArcOf (length places) (length trans)) (λ u. arcs_between g (slice_index places q) (slice_index trans u) q u) (length trans)
+      All-listed_below (IsArcOf (length places) (length trans)) (λ q. place_arcs g trans (slice_index places q) q) (length places)
+      (λ q there. All-listed_below (IsArcOf (length places) (length trans)) (λ u. numbered_arcs g (slice_index places q) (slice_index trans u) q u) (length trans)
       (λ u inside. between_all (IsArcOf (length places) (length trans)) g (slice_index places q) (slice_index trans u) q u
       (λ into w some. record { place_there = there; trans_there = inside; positive = omega arith })))
 
@@ -235,7 +242,8 @@ push_more first l1 l2 l3 xs ys f u sofar a b whole =
     let one : suc u ≡ u + 1 = omega arith in
     b ∙ ap (λ l. l ++ ys) (a ∙ ap (λ l. l ++ xs) sofar) ∙ append_assoc (first ++ listed_below f u) xs ys ∙ append_assoc first (listed_below f u) (xs ++ ys) ∙ ap (λ l. first ++ (listed_below f u ++ l)) whole ∙ ap (λ k. first ++ listed_below f k) one
 
-pub arcs_same : (g : Graph) (p t q u take give : ℕ) → take ≡ takes g t p → give ≡ gives g t p → weighted_arc (record { place = q; trans = u; into = false; weight = take }) ++ weighted_arc (record { place = q; trans = u; into = true; weight = give }) ≡ arcs_between g p t q u
+-- arcs of the same weights
+pub arcs_same : (g : Graph) (p t q u take give : ℕ) → take ≡ takes g t p → give ≡ gives g t p → weighted_arc (record { place = q; trans = u; into = false; weight = take }) ++ weighted_arc (record { place = q; trans = u; into = true; weight = give }) ≡ numbered_arcs g p t q u
 arcs_same g p t q u take give a b = λ i. weighted_arc (record { place = q; trans = u; into = false; weight = a i }) ++ weighted_arc (record { place = q; trans = u; into = true; weight = b i })
 
 -- a walk over all transitions is one over as many as are counted

@@ -19,10 +19,11 @@ use Rattle.stg_net.specs.declared.limits.TheConstants.Limits.{PART}
 use Rattle.stg_net.specs.Graph.{Graph, Place, FullName, place_at, full_name_at, tokens_in, taken_by, given_by, is_among, has_signal_of, IsPlace, IsDummy}
 use Rattle.stg_net.specs.Initial.{initial}
 use Rattle.stg_net.specs.Contraction.{pairs_round, contracted, without_place}
+use Rattle.stg_arena.specs.Ends.{other}
 use Rattle.stg_edit.specs.Counted.{live_places}
 use Rattle.stg_edit.specs.Replacing.{IsSmallPair, new_places, new_arcs}
 use Rattle.stg_edit.specs.Editing.{Editing, Spare, IsAsMuch, less, one_edit_less}
-use Rattle.stg_edit.specs.WorkedNets.{weights, bus, bus_trans, bus_after, IsAt}
+use Rattle.stg_edit.specs.inner.WorkedNets.{weights, bus, bus_trans, bus_after, IsAt}
 
 -- what a test finds of each holds of each
 each : {X : Type 0} (P : X → Type 0) (test : X → Bool) → ((x : X) → test x ≡ true → P x) → (xs : List X) → list_all test xs ≡ true → All P xs
@@ -35,14 +36,6 @@ each P test sound (x ∷ xs) met =
 all_pairs : {X : Type 0} → (X → X → Bool) → List X → Bool
 all_pairs test [] = true
 all_pairs test (x ∷ xs) = list_all (test x) xs && all_pairs test xs
-
--- what a test finds of each pair holds of each pair
-each_pair : {X : Type 0} (R : X → X → Type 0) (test : X → X → Bool) → ((x y : X) → test x y ≡ true → R x y) → (xs : List X) → all_pairs test xs ≡ true → AllPairs R xs
-unfolding all_pairs
-each_pair R test sound [] met = λ i j d lt below. absurd (omega arith)
-each_pair R test sound (x ∷ xs) met =
-    let parts = and_parts (list_all (test x) xs) (all_pairs test xs) met in
-    AllPairs-cons R x xs (each (R x) (test x) (sound x) xs parts.0) (each_pair R test sound xs parts.1)
 
 -- whether two names differ
 abbrev names_differ : Signal → Signal → Bool
@@ -67,26 +60,25 @@ labels_apart s t met same = differ s t met (ap (λ (x : TransName). x.signal) sa
     differ : (s t : TransName) → labels_differ s t ≡ true → s.signal ≡ t.signal → edge_number s.edge ≢ edge_number t.edge
     differ s t met signals edges = grind (arith, nat_tests)
 
--- whether an arc is before another
-abbrev is_before : NetArc → NetArc → Bool
-is_before a b = nat_lt a.place b.place || ((a.place == b.place) && (nat_lt a.trans b.trans || ((a.trans == b.trans) && (not a.into && b.into))))
+-- nets with equal lists are equal
+pub same_net : (a b : NetLists) → a.signals ≡ b.signals → a.trans ≡ b.trans → a.tokens ≡ b.tokens → a.arcs ≡ b.arcs → a ≡ b
+same_net a b signals trans tokens arcs = λ i. record { signals = signals i; trans = trans i; tokens = tokens i; arcs = arcs i }
 
-before : (a b : NetArc) → is_before a b ≡ true → IsBefore a b
-before a b met = in_order a.place b.place a.trans b.trans a.into b.into met
-  where
-    in_order : (p q t u : ℕ) (a b : Bool) → (nat_lt p q || ((p == q) && (nat_lt t u || ((t == u) && (not a && b))))) ≡ true
-        → (p < q) ⊎ ((p ≡ q) × ((t < u) ⊎ ((t ≡ u) × ((a ≡ false) × (b ≡ true)))))
-    in_order p q t u true true met = grind (arith, nat_tests)
-    in_order p q t u true false met = grind (arith, nat_tests)
-    in_order p q t u false true met = grind (arith, nat_tests)
-    in_order p q t u false false met = grind (arith, nat_tests)
+-- the draft of an editor that was made and got room
+pub started : (old new : Editing) (n m : NetLists) (known given : List ℕ) → new ≡ record old { spare = new.spare } → old.now ≡ initial n known → n ≡ m → known ≡ given → new.now ≡ initial m given
+started old new n m known given kept now same said = ap (λ (e : Editing). e.now) kept ∙ now ∙ (λ i. initial (same i) (said i))
 
--- whether the ends of an arc are there, and its weight isn't 0
-abbrev is_arc : ℕ → ℕ → NetArc → Bool
-is_arc places trans a = nat_lt a.place places && (nat_lt a.trans trans && nat_lt 0 a.weight)
+-- numbers below a bound
+pub below : (bound : ℕ) (xs : List ℕ) → list_all (λ k. nat_lt k bound) xs ≡ true → All (λ k. k < bound) xs
+below bound xs met = each (λ k. k < bound) (λ k. nat_lt k bound) (λ k found. ltb-true _ _ found) xs met
 
-arc : (places trans : ℕ) (a : NetArc) → is_arc places trans a ≡ true → IsArcOf places trans a
-arc places trans a met = record { place_there = grind (arith, nat_tests); trans_there = grind (arith, nat_tests); positive = grind (arith, nat_tests) }
+-- what a test finds of each pair holds of each pair
+each_pair : {X : Type 0} (R : X → X → Type 0) (test : X → X → Bool) → ((x y : X) → test x y ≡ true → R x y) → (xs : List X) → all_pairs test xs ≡ true → AllPairs R xs
+unfolding all_pairs
+each_pair R test sound [] met = λ i j d lt below. absurd (omega arith)
+each_pair R test sound (x ∷ xs) met =
+    let parts = and_parts (list_all (test x) xs) (all_pairs test xs) met in
+    AllPairs-cons R x xs (each (R x) (test x) (sound x) xs parts.0) (each_pair R test sound xs parts.1)
 
 -- whether the tokens and weights of a place are below half of 32 bits
 abbrev is_light : Option Place → Bool
@@ -125,90 +117,6 @@ light-pairs g t light = λ i d below. small (get_or (pairs_round g t) i d)
           taken = λ u. omega (arith, one.1.0 u, other.1.0 u);
           given = λ u. omega (arith, one.1.1 u, other.1.1 u);
         }
-
--- whether the lists are a net
-abbrev is_net : NetLists → Bool
-is_net n = all_pairs names_differ n.signals
-    && (all_pairs labels_differ n.trans
-    && (list_all (λ (t : TransName). nat_lt t.signal (length n.signals)) n.trans
-    && (list_all (is_arc (length n.tokens) (length n.trans)) n.arcs
-    && (all_pairs is_before n.arcs
-    && (nat_lt (length n.signals) (2 ^ 32)
-    && (nat_lt (length n.trans) (2 ^ 32)
-    && nat_lt (length n.tokens) (2 ^ 32)))))))
-
--- what the test finds is a net
-net : (n : NetLists) → is_net n ≡ true → IsNet n
-net n met =
-    let names = and_parts _ _ met in
-    let labels = and_parts _ _ names.1 in
-    let signals = and_parts _ _ labels.1 in
-    let arcs = and_parts _ _ signals.1 in
-    let order = and_parts _ _ arcs.1 in
-    let few = and_parts _ _ order.1 in
-    let fit = and_parts _ _ few.1 in
-    record {
-      signal_names = each_pair (λ (s t : Signal). s.name ≢ t.name) names_differ names_apart n.signals names.0;
-      trans_names = each_pair (λ (s t : TransName). s ≢ t) labels_differ labels_apart n.trans labels.0;
-      trans_signals = each (λ (t : TransName). t.signal < length n.signals) (λ (t : TransName). nat_lt t.signal (length n.signals)) (λ t found. ltb-true _ _ found) n.trans signals.0;
-      arcs = each (IsArcOf (length n.tokens) (length n.trans)) (is_arc (length n.tokens) (length n.trans)) (arc (length n.tokens) (length n.trans)) n.arcs arcs.0;
-      ordered = each_pair IsBefore is_before before n.arcs order.0;
-      signals_fit = ltb-true _ _ few.0;
-      trans_fit = ltb-true _ _ fit.0;
-      places_fit = ltb-true _ _ fit.1;
-    }
-
--- nets with equal lists are equal
-pub same_net : (a b : NetLists) → a.signals ≡ b.signals → a.trans ≡ b.trans → a.tokens ≡ b.tokens → a.arcs ≡ b.arcs → a ≡ b
-same_net a b signals trans tokens arcs = λ i. record { signals = signals i; trans = trans i; tokens = tokens i; arcs = arcs i }
-
-pub weights-net : IsNet weights
-unfolding weights all_pairs edge_number
-weights-net = net weights refl
-
-pub bus-net : IsNet bus
-unfolding bus all_pairs edge_number
-bus-net = net bus refl
-
--- whether the lists are within limits
-abbrev is_within : Limits → NetLists → Bool
-is_within l n = nat_le (length n.signals) l.signals
-    && (nat_le (length n.trans) l.trans
-    && (nat_le (length n.tokens) l.places
-    && (nat_le (length n.arcs) l.arcs
-    && (list_all (λ k. nat_le k l.weight) n.tokens && list_all (λ (a : NetArc). nat_le a.weight l.weight) n.arcs))))
-
-within : (l : Limits) (n : NetLists) → is_within l n ≡ true → IsWithin l n
-within l n met =
-    let signals = and_parts _ _ met in
-    let trans = and_parts _ _ signals.1 in
-    let places = and_parts _ _ trans.1 in
-    let arcs = and_parts _ _ places.1 in
-    let numbers = and_parts _ _ arcs.1 in
-    record {
-      signals = leb-true _ _ signals.0;
-      trans = leb-true _ _ trans.0;
-      places = leb-true _ _ places.0;
-      arcs = leb-true _ _ arcs.0;
-      tokens = each (λ k. k ≤ l.weight) (λ k. nat_le k l.weight) (λ k found. leb-true _ _ found) n.tokens numbers.0;
-      weights = each (λ (a : NetArc). a.weight ≤ l.weight) (λ (a : NetArc). nat_le a.weight l.weight) (λ a found. leb-true _ _ found) n.arcs numbers.1;
-    }
-
-pub weights-within : IsWithin PART weights
-unfolding weights
-weights-within = within PART weights refl
-
-pub bus-within : IsWithin PART bus
-unfolding bus
-bus-within = within PART bus refl
-
--- the draft of an editor that was made and got room
-pub started : (old new : Editing) (n m : NetLists) (known given : List ℕ) → new ≡ record old { spare = new.spare } → old.now ≡ initial n known → n ≡ m → known ≡ given → new.now ≡ initial m given
-started old new n m known given kept now same said = ap (λ (e : Editing). e.now) kept ∙ now ∙ (λ i. initial (same i) (said i))
-
--- numbers below a bound
-pub below : (bound : ℕ) (xs : List ℕ) → list_all (λ k. nat_lt k bound) xs ≡ true → All (λ k. k < bound) xs
-below bound xs met = each (λ k. k < bound) (λ k. nat_lt k bound) (λ k found. ltb-true _ _ found) xs met
 
 -- t can be contracted, which makes one place with two arcs
 pub record CanGo (g : Graph) (t : ℕ) : Type 0 where
@@ -268,7 +176,7 @@ bus-replace old new k low other at now past spare =
       arcs = omega (arith, at.arcs, spare.arcs, two);
     }
 
--- whether a transition has gone or its signal is known
+-- whether a transition isn't live or its signal is known
 abbrev is_shown : Graph → Option FullName → Bool
 is_shown g None = true
 is_shown g (Some name) = is_among g.known name.signal
@@ -277,7 +185,7 @@ shown : (g : Graph) (x : Option FullName) → is_shown g x ≡ true → IsSome x
 shown g None met live = absurd (true≢false (sym live))
 shown g (Some name) met live = met
 
--- no dummy is left where each transition has gone or is known
+-- no dummy is left where each transition is known or isn't live
 no_dummies : (g : Graph) → list_all (is_shown g) g.trans ≡ true → (t : ℕ) → IsDummy g t → ⊥
 no_dummies g met t dummy = elim (cases_lt t (length g.trans)) [
   | inl low ↦ true≢false (sym (shown g (full_name_at g t) (each (λ x. is_shown g x ≡ true) (is_shown g) (λ x found. found) g.trans met t None low) dummy.live) ∙ dummy.hidden)
@@ -289,7 +197,95 @@ pub bus-shown : (g : Graph) → g ≡ bus_after 7 → (t : ℕ) → IsDummy g t 
 unfolding bus bus_after
 bus-shown g now t dummy = no_dummies (bus_after 7) refl t (subst (λ g. IsDummy g t) now dummy)
 
--- the places that are left
-bus-places : live_places (bus_after 7) ≡ 3 ∷ 6 ∷ 13 ∷ 16 ∷ []
-unfolding bus bus_after
-bus-places = refl
+-- whether an arc is before another
+abbrev is_before : NetArc → NetArc → Bool
+is_before a b = nat_lt a.place b.place || ((a.place == b.place) && (nat_lt a.trans b.trans || ((a.trans == b.trans) && (not a.into && b.into))))
+
+before : (a b : NetArc) → is_before a b ≡ true → IsBefore a b
+before a b met = in_order a.place b.place a.trans b.trans a.into b.into met
+  where
+    in_order : (p q t u : ℕ) (a b : Bool) → (nat_lt p q || ((p == q) && (nat_lt t u || ((t == u) && (not a && b))))) ≡ true
+        → (p < q) ⊎ ((p ≡ q) × ((t < u) ⊎ ((t ≡ u) × ((a ≡ false) × (b ≡ true)))))
+    in_order p q t u true true met = grind (arith, nat_tests)
+    in_order p q t u true false met = grind (arith, nat_tests)
+    in_order p q t u false true met = grind (arith, nat_tests)
+    in_order p q t u false false met = grind (arith, nat_tests)
+
+-- whether the ends of an arc are there, and its weight isn't 0
+abbrev is_arc : ℕ → ℕ → NetArc → Bool
+is_arc places trans a = nat_lt a.place places && (nat_lt a.trans trans && nat_lt 0 a.weight)
+
+arc : (places trans : ℕ) (a : NetArc) → is_arc places trans a ≡ true → IsArcOf places trans a
+arc places trans a met = record { place_there = grind (arith, nat_tests); trans_there = grind (arith, nat_tests); positive = grind (arith, nat_tests) }
+
+-- whether the lists are a net
+abbrev is_net : NetLists → Bool
+is_net n = all_pairs names_differ n.signals
+    && (all_pairs labels_differ n.trans
+    && (list_all (λ (t : TransName). nat_lt t.signal (length n.signals)) n.trans
+    && (list_all (is_arc (length n.tokens) (length n.trans)) n.arcs
+    && (all_pairs is_before n.arcs
+    && (nat_lt (length n.signals) (2 ^ 32)
+    && (nat_lt (length n.trans) (2 ^ 32)
+    && nat_lt (length n.tokens) (2 ^ 32)))))))
+
+-- what the test finds is a net
+net : (n : NetLists) → is_net n ≡ true → IsNet n
+net n met =
+    let names = and_parts _ _ met in
+    let labels = and_parts _ _ names.1 in
+    let signals = and_parts _ _ labels.1 in
+    let arcs = and_parts _ _ signals.1 in
+    let order = and_parts _ _ arcs.1 in
+    let few = and_parts _ _ order.1 in
+    let fit = and_parts _ _ few.1 in
+    record {
+      signal_names = each_pair (λ (s t : Signal). s.name ≢ t.name) names_differ names_apart n.signals names.0;
+      trans_names = each_pair (λ (s t : TransName). s ≢ t) labels_differ labels_apart n.trans labels.0;
+      trans_signals = each (λ (t : TransName). t.signal < length n.signals) (λ (t : TransName). nat_lt t.signal (length n.signals)) (λ t found. ltb-true _ _ found) n.trans signals.0;
+      arcs = each (IsArcOf (length n.tokens) (length n.trans)) (is_arc (length n.tokens) (length n.trans)) (arc (length n.tokens) (length n.trans)) n.arcs arcs.0;
+      ordered = each_pair IsBefore is_before before n.arcs order.0;
+      signals_fit = ltb-true _ _ few.0;
+      trans_fit = ltb-true _ _ fit.0;
+      places_fit = ltb-true _ _ fit.1;
+    }
+
+pub weights-net : IsNet weights
+unfolding weights all_pairs edge_number
+weights-net = net weights refl
+
+pub bus-net : IsNet bus
+unfolding bus all_pairs edge_number
+bus-net = net bus refl
+
+-- whether the lists are within limits
+abbrev is_within : Limits → NetLists → Bool
+is_within l n = nat_le (length n.signals) l.signals
+    && (nat_le (length n.trans) l.trans
+    && (nat_le (length n.tokens) l.places
+    && (nat_le (length n.arcs) l.arcs
+    && (list_all (λ k. nat_le k l.weight) n.tokens && list_all (λ (a : NetArc). nat_le a.weight l.weight) n.arcs))))
+
+within : (l : Limits) (n : NetLists) → is_within l n ≡ true → IsWithin l n
+within l n met =
+    let signals = and_parts _ _ met in
+    let trans = and_parts _ _ signals.1 in
+    let places = and_parts _ _ trans.1 in
+    let arcs = and_parts _ _ places.1 in
+    let numbers = and_parts _ _ arcs.1 in
+    record {
+      signals = leb-true _ _ signals.0;
+      trans = leb-true _ _ trans.0;
+      places = leb-true _ _ places.0;
+      arcs = leb-true _ _ arcs.0;
+      tokens = each (λ k. k ≤ l.weight) (λ k. nat_le k l.weight) (λ k found. leb-true _ _ found) n.tokens numbers.0;
+      weights = each (λ (a : NetArc). a.weight ≤ l.weight) (λ (a : NetArc). nat_le a.weight l.weight) (λ a found. leb-true _ _ found) n.arcs numbers.1;
+    }
+
+pub weights-within : IsWithin PART weights
+unfolding weights
+weights-within = within PART weights refl
+
+pub bus-within : IsWithin PART bus
+unfolding bus
+bus-within = within PART bus refl

@@ -16,7 +16,12 @@ live_trans g = filter (λ t. is_some (full_name_at g t)) (range_with_len 0 (leng
 -- the place with the weights at these transitions alone
 abbrev pub packed : List ℕ → Option Place → Option Place
 packed trans None = None
-packed trans (Some x) = Some (record { tokens = x.tokens; taken = map (slice_index x.taken) trans; given = map (slice_index x.given) trans })
+packed trans (Some x) = Some
+    (record {
+      tokens = x.tokens;
+      taken = map (slice_index x.taken) trans;
+      given = map (slice_index x.given) trans;
+    })
 
 -- the live places and transitions in ascending order, with the numbers from 0 on
 abbrev pub compacted : Graph → Graph
@@ -27,14 +32,15 @@ compacted g = record g {
 
 -- the numbers of the signals that are known, in ascending order
 abbrev pub known_signals : List Signal → Graph → List ℕ
-known_signals signals g = filter (λ s. is_among g.known (signal_at signals s).name) (range_with_len 0 (length signals))
+known_signals signals g = filter (λ s. is_among g.known (signal_at signals s).name)
+    (range_with_len 0 (length signals))
 
 -- the signal of that number: an own one keeps its kind, and every other one is an input
-abbrev pub signal_shown : List Signal → List ℕ → ℕ → Signal
-signal_shown signals own s = component_signal own [] (s, signal_at signals s)
+abbrev pub net_signal : List Signal → List ℕ → ℕ → Signal
+net_signal signals own s = component_signal own [] (s, signal_at signals s)
 
 -- the net of the draft: the known signals in their order, and the live places and transitions
 pub record IsNetOf (e : Editing) (own : List ℕ) (n : NetLists) : Type 0 where
-  pub signals : n.signals ≡ map (signal_shown e.signals own) (known_signals e.signals e.now)
+  pub signals : n.signals ≡ map (net_signal e.signals own) (known_signals e.signals e.now)
   pub places : (graph_of n).places ≡ (compacted e.now).places
   pub trans : (graph_of n).trans ≡ (compacted e.now).trans

@@ -1,10 +1,9 @@
 -- What contracts see of an editor.
-use Rattle.std.specs.Prelude.{◌≤◌, ◌-◌, ℕ, Bool, true, false, List}
+use Rattle.std.specs.Prelude.{◌≤◌, ◌-◌, ℕ, List}
 use Rattle.stg_net.specs.declared.signal.Signal.{Signal}
 use Rattle.stg_net.specs.declared.trans.TransName.{TransName}
 use Rattle.stg_net.specs.Net.{signal_at}
-use Rattle.stg_net.specs.Graph.{Graph, FullName, IsPlace, IsTrans}
-use Rattle.stg_net.specs.Contraction.{without_place, without_trans}
+use Rattle.stg_net.specs.Graph.{Graph, FullName}
 
 -- how many edits, places and arcs can still be made without memory
 pub record Spare : Type 0 where
@@ -12,7 +11,8 @@ pub record Spare : Type 0 where
   pub places : ℕ
   pub arcs : ℕ
 
--- the draft now, the drafts before each edit, what is spare, how many edits were undone, and the signals of the net
+-- the draft now, the drafts before each edit, what is spare, how many edits were undone, and the
+-- signals of the net
 pub record Editing : Type 0 where
   pub now : Graph
   pub past : List Graph
@@ -28,22 +28,14 @@ pub record IsAsMuch (least most : Spare) : Type 0 where
 
 -- so many edits, places and arcs less
 abbrev pub less : Spare → ℕ → ℕ → ℕ → Spare
-less s edits places arcs = record { edits = s.edits - edits; places = s.places - places; arcs = s.arcs - arcs }
+less s edits places arcs = record
+    { edits = s.edits - edits; places = s.places - places; arcs = s.arcs - arcs }
 
 -- one edit less
 abbrev pub one_edit_less : Spare → Spare
 one_edit_less s = record s { edits = s.edits - 1 }
 
 -- the name of a transition, with the name of its signal
-abbrev pub name_in : List Signal → TransName → FullName
-name_in signals t = record { signal = (signal_at signals t.signal).name; edge = t.edge; index = t.index }
-
--- the place, or the transition, of that number is live
-abbrev pub IsNode : Bool → Graph → ℕ → Type 0
-IsNode true g p = IsPlace g p
-IsNode false g t = IsTrans g t
-
--- the draft without that place, or that transition
-abbrev pub without_node : Bool → Graph → ℕ → Graph
-without_node true g p = without_place g p
-without_node false g t = without_trans g t
+abbrev pub full_name_in : List Signal → TransName → FullName
+full_name_in signals t = record
+    { signal = (signal_at signals t.signal).name; edge = t.edge; index = t.index }

@@ -6,7 +6,8 @@ use Rattle.stg_edit.specs.Walks.{arcs_below}
 
 -- how many arcs the place has that stands for a pair once t is contracted
 abbrev pub arcs_of_pair : Graph → ℕ → ℕ × ℕ → ℕ
-arcs_of_pair g t x = arcs_below (λ u. if u == t then 0 else takes g u x.0 + takes g u x.1) (λ u. if u == t then 0 else gives g u x.0 + gives g u x.1) (length g.trans)
+arcs_of_pair g t x = arcs_below (λ u. if u == t then 0 else takes g u x.0 + takes g u x.1)
+    (λ u. if u == t then 0 else gives g u x.0 + gives g u x.1) (length g.trans)
 
 -- how many places the contraction of t makes
 abbrev pub new_places : Graph → ℕ → ℕ

@@ -1,15 +1,7 @@
 -- The arcs at a transition and at a place, as the walks give them.
-use Rattle.std.specs.Prelude.{◌+◌, ℕ, List, filter, map, length, nat_lt}
-use Rattle.std.specs.List.{range_with_len}
+use Rattle.std.specs.Prelude.{◌+◌, ℕ, List, length}
 use Rattle.stg_net.specs.Graph.{Graph, takes, gives}
-
--- the numbers from `first` on, `count` of them, that have a weight, each with its weight
-abbrev pub weighted_from : (ℕ → ℕ) → ℕ → ℕ → List (ℕ × ℕ)
-weighted_from weight first count = filter (λ (x : ℕ × ℕ). nat_lt 0 x.1) (map (λ k. (k, weight k)) (range_with_len first count))
-
--- the numbers below `count` that have a weight, in ascending order, each with its weight
-abbrev pub weighted : ℕ → (ℕ → ℕ) → List (ℕ × ℕ)
-weighted count weight = weighted_from weight 0 count
+use Rattle.stg_arena.specs.WalkItems.{weighted}
 
 -- the places from which t takes
 abbrev pub taken_places : Graph → ℕ → List (ℕ × ℕ)

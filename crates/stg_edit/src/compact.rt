@@ -2,19 +2,18 @@
 
 ghost use Rattle.std.specs.Prelude.{◌≡◌, ◌<◌, ◌^◌, ◌++◌, ℕ, true, Some, All, map, length, is_some, slice_index, IfOk, OnOk};
 ghost use Rattle.stg_net.specs.declared.trans.TransName.{TransName as ThisName};
-ghost use Rattle.stg_net.specs.Component.{is_one_of};
 ghost use Rattle.stg_net.specs.Ordered.{new_number};
 ghost use Rattle.stg_net.specs.Graph.{IsPlace, IsTrans, place_at, full_name_at, tokens_at, has_signal_of};
-ghost use Rattle.stg_edit.specs.Compacted.{live_trans, signal_shown, known_signals};
+ghost use Rattle.stg_edit.specs.Compacted.{live_trans, known_signals};
 ghost use Rattle.stg_edit.specs.Counted.{live_places};
-ghost use Rattle.stg_edit.specs.Editing.{name_in};
-ghost use Rattle.stg_edit.specs.Walks.{weighted};
-ghost use Rattle.stg_edit.specs.Packing.{IsShownBy, weighted_arc, row_arcs, all_arcs};
+ghost use Rattle.stg_edit.specs.Editing.{full_name_in};
+ghost use Rattle.stg_arena.specs.WalkItems.{weighted};
+ghost use Rattle.stg_edit.specs.inner.Packing.{HaveNamesOf, weighted_arc, place_arcs, all_arcs};
 
 use crate::editor::Editor;
-use crate::walk::Walk;
 use std::alloc::Global;
-use stg_net::{Kind, NetArc, NoMemory, Nums, Seq, Signal, TransName, is_one_of, renumber};
+use stg_arena::Walk;
+use stg_net::{NetArc, NoMemory, Nums, Seq, Signal, TransName, renumber};
 
 /// Whether there is a live place of that number.
 fn has_place(editor: &Editor, p: u32) -> bool
@@ -70,45 +69,14 @@ pub fn list_trans(alloc: Global, editor: &Editor) -> Result<Nums, NoMemory>
     Ok(list)
 }
 
-/// The signal of that number, which keeps its kind where it is an own one.
-fn show_signal(alloc: Global, signals: &[Signal], own: &[u32], s: u32) -> Result<Signal, NoMemory>
-    requires { s < length signals.now }
-    ensures { IfOk result (λ x. x ≡ signal_shown signals.now own.now s) }
-{
-    let signal = &signals[s as usize];
-    let kind = if is_one_of(own, s as usize) {
-        signal.kind
-    } else {
-        Kind::Input
-    };
-    signal.copy_as(alloc, kind)
-}
-
-/// The signals of these numbers, where the own ones alone keep their kinds.
-pub fn show_signals(
-    alloc: Global,
-    signals: &[Signal],
-    own: &[u32],
-    kept: &[u32],
-) -> Result<Seq<Signal>, NoMemory>
-    requires { All (λ s. s < length signals.now) kept.now }
-    ensures { IfOk result (λ list. list ≡ map (signal_shown signals.now own.now) kept.now) }
-{
-    let mut list = Seq::new(alloc);
-    for s in kept {
-        list.push(show_signal(alloc, signals, own, *s)?)?;
-    }
-    Ok(list)
-}
-
 /// The name of a live transition with the number that its signal has among those that are kept.
 fn rename(editor: &Editor, signals: &[Signal], kept: &[u32], t: u32) -> TransName
     requires live { IsTrans editor.now.now t }
     requires known { has_signal_of editor.now.now.known (full_name_at editor.now.now t) ≡ true }
     requires kept { kept.now ≡ known_signals editor.now.signals editor.now.now }
-    requires shown { IsShownBy editor.now.signals kept.now signals.now }
+    requires names { HaveNamesOf editor.now.signals kept.now signals.now }
     requires fit { length signals.now < 2 ^ 32 }
-    ensures name { full_name_at editor.now.now t ≡ Some (name_in signals.now result) }
+    ensures name { full_name_at editor.now.now t ≡ Some (full_name_in signals.now result) }
     ensures signal { result.signal < length signals.now }
 {
     let name = editor.name(t);
@@ -125,11 +93,14 @@ pub fn list_names(
     trans: &[u32],
 ) -> Result<Seq<TransName>, NoMemory>
     requires live { All (λ t. IsTrans editor.now.now t) trans.now }
-    requires known { All (λ t. has_signal_of editor.now.now.known (full_name_at editor.now.now t) ≡ true) trans.now }
+    requires known { All (λ t. has_signal_of editor.now.now.known (full_name_at editor.now.now t)
+        ≡ true) trans.now }
     requires kept { kept.now ≡ known_signals editor.now.signals editor.now.now }
-    requires shown { IsShownBy editor.now.signals kept.now signals.now }
+    requires names { HaveNamesOf editor.now.signals kept.now signals.now }
     requires fit { length signals.now < 2 ^ 32 }
-    ensures names { IfOk result (λ list. map (λ x. Some (name_in signals.now x)) list ≡ map (full_name_at editor.now.now) trans.now) }
+    ensures names { IfOk result
+        (λ list. map (λ x. Some (full_name_in signals.now x)) list
+        ≡ map (full_name_at editor.now.now) trans.now) }
     ensures there { IfOk result (λ list. All (λ (x : ThisName). x.signal < length signals.now) list) }
 {
     let mut list = Seq::new(alloc);
@@ -152,16 +123,18 @@ pub fn list_tokens(alloc: Global, editor: &Editor, places: &[u32]) -> Result<Num
 }
 
 /// For each of so many transitions the weight that the walk gives, and 0 where it gives none.
-fn row_of(alloc: Global, count: u32, walk: Walk<'_>) -> Result<Vec<u32>, NoMemory>
+fn weights_of(alloc: Global, count: u32, walk: Walk<'_>) -> Result<Vec<u32>, NoMemory>
     requires { (w : ℕ → ℕ) × (walk ≡ weighted count w) }
-    ensures len { IfOk result (λ row. length row.items ≡ count) }
-    ensures weights { IfOk result (λ row. (w : ℕ → ℕ) → walk.entry ≡ weighted count w → (t : ℕ) → t < count → slice_index row.items t ≡ w t) }
+    ensures len { IfOk result (λ list. length list.items ≡ count) }
+    ensures weights { IfOk result
+        (λ list. (w : ℕ → ℕ) → walk.entry ≡ weighted count w → (t : ℕ) → t < count
+        → slice_index list.items t ≡ w t) }
 {
-    let mut row = vec![in alloc; 0; count as usize]?;
+    let mut list = vec![in alloc; 0; count as usize]?;
     for (t, weight) in walk {
-        row[t as usize] = weight;
+        list[t as usize] = weight;
     }
-    Ok(row)
+    Ok(list)
 }
 
 /// Adds the arc, where it has a weight.
@@ -175,7 +148,7 @@ fn push_arc(list: &mut Seq<NetArc>, arc: NetArc) -> Result<(), NoMemory>
 }
 
 /// Adds the arcs between a live place, whose new number is q, and these transitions.
-fn push_row(
+fn push_place_arcs(
     alloc: Global,
     list: &mut Seq<NetArc>,
     editor: &Editor,
@@ -186,11 +159,11 @@ fn push_row(
     requires live { IsPlace editor.now.now p }
     requires there { All (λ t. t < length editor.now.now.trans) trans.now }
     requires fit { length trans.now < 2 ^ 32 }
-    ensures { OnOk result (list.new ≡ list.old ++ row_arcs editor.now.now trans.now p q) }
+    ensures { OnOk result (list.new ≡ list.old ++ place_arcs editor.now.now trans.now p q) }
 {
     let count = editor.all_trans();
-    let taken = row_of(alloc, count, editor.takers(p))?;
-    let given = row_of(alloc, count, editor.givers(p))?;
+    let taken = weights_of(alloc, count, editor.takers(p))?;
+    let given = weights_of(alloc, count, editor.givers(p))?;
     for u in 0..trans.len() as u32 {
         let t = trans[u as usize] as usize;
         push_arc(
@@ -230,7 +203,7 @@ pub fn list_arcs(
 {
     let mut list = Seq::new(alloc);
     for q in 0..places.len() as u32 {
-        push_row(alloc, &mut list, editor, trans, places[q as usize], q)?;
+        push_place_arcs(alloc, &mut list, editor, trans, places[q as usize], q)?;
     }
     Ok(list)
 }

@@ -1,43 +1,31 @@
 //! The editor: a graph under work, and its earlier drafts.
 
-ghost use Rattle.std.specs.Prelude.{◌≡◌, ◌≢◌, ◌==◌, ◌<◌, ◌≤◌, ◌↔◌, ◌+◌, ◌-◌, ◌^◌, ◌++◌, ◌∷◌, [], ℕ, Some, false, length, min, All, AllPairs, IfOk, OnOk, OnErr, IsTrue, slice_index_or};
-ghost use Rattle.std.specs.List.{list_any};
+ghost use Rattle.std.specs.Prelude.{◌≡◌, ◌≢◌, ◌<◌, ◌≤◌, ◌↔◌, ◌+◌, ◌-◌, ◌^◌, ◌++◌, ◌∷◌, [], ℕ, Some, length, min, All, AllPairs, IfOk, OnOk, OnErr, IsTrue};
 ghost use Rattle.stg_net.specs.declared.limits.TheConstants.Limits.{PART};
 ghost use Rattle.stg_net.specs.declared.signal.Signal.{Signal as ThisSignal};
-ghost use Rattle.stg_net.specs.Net.{IsWithin, signal_at};
+ghost use Rattle.stg_net.specs.Net.{IsNet, IsWithin, signal_at};
 ghost use Rattle.stg_net.specs.Initial.{initial};
 ghost use Rattle.stg_net.specs.Contraction.{without_place, without_trans, contracted, pairs_round};
 ghost use Rattle.stg_net.specs.Graph.{IsPlace, IsTrans, IsDummy, tokens_at, full_name_at, is_among};
-ghost use Rattle.stg_edit.specs.Ends.{is_place};
 ghost use Rattle.stg_edit.specs.Compacted.{IsNetOf};
-ghost use Rattle.stg_edit.specs.Packing.{IsFit};
-ghost use Rattle.stg_edit.specs.Drafting.{present};
+ghost use Rattle.stg_edit.specs.Drafts.{IsDraft};
+ghost use Rattle.stg_edit.specs.inner.Nodes.{IsNode, walk_arcs, without_node};
 ghost use Rattle.stg_edit.specs.Walks.{taken_places, given_places, taking_trans, giving_trans};
 ghost use Rattle.stg_edit.specs.Counted.{live_places, count_arcs, count_arcs_at};
-ghost use Rattle.stg_edit.specs.Editing.{IsAsMuch, IsNode, less, one_edit_less, name_in, without_node};
+ghost use Rattle.stg_edit.specs.Editing.{IsAsMuch, less, one_edit_less, full_name_in};
 ghost use Rattle.stg_edit.specs.Replacing.{new_places, new_arcs, IsSmallPair};
 
-use crate::arena::Arena;
 use crate::build::build;
-use crate::compact::{
-    list_arcs, list_names, list_places, list_signals, list_tokens, list_trans, show_signals,
-};
-use crate::end::{End, Way};
-use crate::join::join_round;
-use crate::round::hide_round;
-use crate::walk::Walk;
+use crate::compact::{list_arcs, list_names, list_places, list_signals, list_tokens, list_trans};
+use crate::edit_start::{EditStart, edit_start};
+use crate::pair_places::add_pair_places;
+use crate::round::remove_round;
+use crate::signals::{copy_signals, known_flags, net_signals};
 use crate::wear::Wear;
 use std::alloc::Global;
 use std::marker::Model;
+use stg_arena::{Arena, End, Walk, Way};
 use stg_net::{Net, NoMemory, Nums, Seq, Signal, TransName};
-
-/// Where an edit began: how many nodes had gone, and how many places and cells there were.
-#[derive(Clone, Copy, Debug)]
-pub struct Mark {
-    pub moment: u32,
-    pub places: u32,
-    pub cells: u32,
-}
 
 /// A graph under work. Contracts see it as its draft, the drafts before each edit, what is spare,
 /// how many edits were undone, and the signals of the net.
@@ -50,7 +38,7 @@ pub struct Editor {
     known: Nums,
     /// For each signal, whether it is known.
     is_known: Vec<bool>,
-    marks: Vec<Mark>,
+    starts: Vec<EditStart>,
     edit_room: u32,
     first_places: u32,
     undone: u64,
@@ -61,7 +49,7 @@ impl Model for Editor {
 
     ghost Value = { Editing };
 
-    ghost use Rattle.stg_edit.specs.View.{editing, IsEditor};
+    ghost use Rattle.stg_edit.specs.inner.View.{editing, IsEditor};
 
     ghost view = { editing };
 
@@ -77,17 +65,17 @@ impl Editor {
         ensures past { IfOk result (λ e. e.past ≡ []) }
         ensures undone { IfOk result (λ e. e.undone ≡ 0) }
         ensures signals { IfOk result (λ e. e.signals ≡ net.now.signals) }
+        ensures net { IfOk result (λ e. IsNet net.now) }
     {
         let arena = build(alloc, net)?;
-        arena.sound();
         Ok(Editor {
             alloc,
             arena,
             signals: copy_signals(alloc, net.signals())?,
             names: Seq::from_slice(alloc, net.trans())?,
             known: Seq::from_slice(alloc, known.as_slice())?,
-            is_known: mark_known(alloc, net.signals().len(), known.as_slice())?,
-            marks: Vec::new(alloc),
+            is_known: known_flags(alloc, net.signals().len(), known.as_slice())?,
+            starts: Vec::new(alloc),
             edit_room: 0,
             first_places: net.tokens().len() as u32,
             undone: 0,
@@ -97,16 +85,17 @@ impl Editor {
     /// Makes at least so much spare. `NoMemory` comes also where the edits, places or arcs would
     /// altogether pass 32 bits.
     pub fn reserve(&mut self, edits: u32, places: u32, arcs: u32) -> Result<(), NoMemory>
-        ensures ok { OnOk result (IsAsMuch (record { edits = edits; places = places; arcs = arcs }) self.new.spare) }
+        ensures ok { OnOk result
+            (IsAsMuch (record { edits = edits; places = places; arcs = arcs }) self.new.spare) }
         ensures spare { IsAsMuch self.old.spare self.new.spare }
         ensures kept { self.new ≡ record self.old { spare = self.new.spare } }
         ensures err { OnErr result (self.new ≡ self.old) }
     {
-        let edit_room = self.marks.len() as u64 + edits as u64;
+        let edit_room = self.starts.len() as u64 + edits as u64;
         if edit_room > u32::MAX as u64 {
             return Err(NoMemory);
         }
-        self.marks.reserve(edits as usize)?;
+        self.starts.reserve(edits as usize)?;
         self.arena.reserve(places, arcs)?;
         self.edit_room = self.edit_room.max(edit_room as u32);
         Ok(())
@@ -114,9 +103,9 @@ impl Editor {
 
     /// Whether the place of that number is live.
     pub fn is_place(&self, p: u32) -> bool
-        ensures { IsTrue result ↔ IsPlace self.now.now p }
+        ensures value { IsTrue result ↔ IsPlace self.now.now p }
+        ensures draft { IsDraft self.now }
     {
-        self.arena.sound();
         self.arena.is_live(End::Place, p)
     }
 
@@ -125,15 +114,14 @@ impl Editor {
         requires { IsPlace self.now.now p }
         ensures { result ≡ tokens_at self.now.now p }
     {
-        self.arena.sound();
         self.arena.tokens(p)
     }
 
     /// Whether the transition of that number is live.
     pub fn is_trans(&self, t: u32) -> bool
-        ensures { IsTrue result ↔ IsTrans self.now.now t }
+        ensures value { IsTrue result ↔ IsTrans self.now.now t }
+        ensures draft { IsDraft self.now }
     {
-        self.arena.sound();
         self.arena.is_live(End::Trans, t)
     }
 
@@ -149,47 +137,55 @@ impl Editor {
     /// The name of a live transition, with the number of its signal in the net.
     pub fn name(&self, t: u32) -> TransName
         requires { IsTrans self.now.now t }
-        ensures name { full_name_at self.now.now t ≡ Some (name_in self.now.signals result) }
+        ensures name { full_name_at self.now.now t ≡ Some (full_name_in self.now.signals result) }
         ensures signal { result.signal < length self.now.signals }
     {
-        self.arena.sound();
         self.names.as_slice()[t as usize]
     }
 
     /// The places from which a live transition takes, with the weights.
     pub fn takes(&self, t: u32) -> Walk<'_>
         requires { IsTrans self.now.now t }
-        ensures { result ≡ taken_places self.now.now t }
+        ensures value { result ≡ taken_places self.now.now t }
+        ensures draft { IsDraft self.now }
     {
-        self.arena.sound();
-        Walk::of(&self.arena, End::Trans, Way::Take, t)
+        self.walk(End::Trans, Way::Take, t)
     }
 
     /// The places to which a live transition gives, with the weights.
     pub fn gives(&self, t: u32) -> Walk<'_>
         requires { IsTrans self.now.now t }
-        ensures { result ≡ given_places self.now.now t }
+        ensures value { result ≡ given_places self.now.now t }
+        ensures draft { IsDraft self.now }
     {
-        self.arena.sound();
-        Walk::of(&self.arena, End::Trans, Way::Give, t)
+        self.walk(End::Trans, Way::Give, t)
     }
 
     /// The transitions that take from a live place, with the weights.
     pub fn takers(&self, p: u32) -> Walk<'_>
         requires { IsPlace self.now.now p }
-        ensures { result ≡ taking_trans self.now.now p }
+        ensures value { result ≡ taking_trans self.now.now p }
+        ensures draft { IsDraft self.now }
     {
-        self.arena.sound();
-        Walk::of(&self.arena, End::Place, Way::Take, p)
+        self.walk(End::Place, Way::Take, p)
     }
 
     /// The transitions that give to a live place, with the weights.
     pub fn givers(&self, p: u32) -> Walk<'_>
         requires { IsPlace self.now.now p }
-        ensures { result ≡ giving_trans self.now.now p }
+        ensures value { result ≡ giving_trans self.now.now p }
+        ensures draft { IsDraft self.now }
     {
-        self.arena.sound();
-        Walk::of(&self.arena, End::Place, Way::Give, p)
+        self.walk(End::Place, Way::Give, p)
+    }
+
+    /// The arcs at a live place, or at a live transition, in one direction.
+    fn walk(&self, end: End, way: Way, node: u32) -> Walk<'_>
+        requires { IsNode end self.now.now node }
+        ensures value { result ≡ walk_arcs self.now.now end way node }
+        ensures draft { IsDraft self.now }
+    {
+        Walk::of(&self.arena, end, way, node)
     }
 
     /// The number of live places.
@@ -223,20 +219,21 @@ impl Editor {
         requires { IsPlace self.now.now p }
         ensures { result ≡ count_arcs_at self.now.now p }
     {
-        self.arena.sound();
         self.takers(p).count() as u64 + self.givers(p).count() as u64
     }
 
     /// The number that the next new place gets.
     pub fn next_place(&self) -> u32
-        ensures { result ≡ length self.now.now.places }
+        ensures value { result ≡ length self.now.now.places }
+        ensures draft { IsDraft self.now }
     {
         self.arena.count_places()
     }
 
     /// The number of the net's transitions, live or not.
     pub fn all_trans(&self) -> u32
-        ensures { result ≡ length self.now.now.trans }
+        ensures value { result ≡ length self.now.now.trans }
+        ensures draft { IsDraft self.now }
     {
         self.arena.count_trans()
     }
@@ -245,6 +242,7 @@ impl Editor {
     pub fn signals(&self) -> &[Signal]
         ensures value { result.now ≡ self.now.signals }
         ensures names { AllPairs (λ (s t : ThisSignal). s.name ≢ t.name) self.now.signals }
+        ensures draft { IsDraft self.now }
     {
         self.signals.as_slice()
     }
@@ -255,14 +253,6 @@ impl Editor {
         ensures { result ≡ is_among self.now.now.known (signal_at self.now.signals s).name }
     {
         self.is_known[s as usize]
-    }
-
-    /// Hands out what is true of each editor.
-    pub(crate) fn sound(&self)
-        ensures { IsFit self.now }
-    {
-        self.arena.sound();
-        let _names = &self.names;
     }
 
     /// The number of the net's places.
@@ -300,23 +290,21 @@ impl Editor {
 
     /// Deletes the place, or the transition, with its arcs.
     fn delete(&mut self, end: End, node: u32)
-        requires live { IsNode (is_place end) self.old.now node }
+        requires live { IsNode end self.old.now node }
         requires room { 0 < self.old.spare.edits }
-        ensures now { self.new.now ≡ without_node (is_place end) self.old.now node }
+        ensures now { self.new.now ≡ without_node end self.old.now node }
         ensures past { self.new.past ≡ self.old.past ++ self.old.now ∷ [] }
         ensures spare { self.new.spare ≡ one_edit_less self.old.spare }
         ensures undone { self.new.undone ≡ self.old.undone }
         ensures signals { self.new.signals ≡ self.old.signals }
     {
-        self.arena.sound();
-        let mark = make_mark(&self.arena);
-        self.arena.hide(end, node);
-        self.arena.sound();
-        self.marks.push_reserved(mark);
+        let start = edit_start(&self.arena);
+        self.arena.remove(end, node);
+        self.starts.push_reserved(start);
     }
 
-    /// Contracts a dummy: it goes with the places round it, and each pair of a place before it and a
-    /// place after it has a new place.
+    /// Contracts a dummy: it is removed with the places round it, and each pair of a place before
+    /// it and a place after it has a new place.
     pub fn replace(&mut self, t: u32)
         requires live { IsDummy self.old.now t }
         requires room { 0 < self.old.spare.edits }
@@ -325,19 +313,17 @@ impl Editor {
         requires sums { All (IsSmallPair self.old.now) (pairs_round self.old.now t) }
         ensures now { self.new.now ≡ contracted self.old.now t }
         ensures past { self.new.past ≡ self.old.past ++ self.old.now ∷ [] }
-        ensures spare { IsAsMuch (less self.old.spare 1 (new_places self.old.now t) (new_arcs self.old.now t)) self.new.spare }
+        ensures spare { IsAsMuch
+            (less self.old.spare 1 (new_places self.old.now t) (new_arcs self.old.now t))
+            self.new.spare }
         ensures undone { self.new.undone ≡ self.old.undone }
         ensures signals { self.new.signals ≡ self.old.signals }
     {
-        self.arena.sound();
-        let mark = make_mark(&self.arena);
-        join_round(&mut self.arena, t);
-        self.arena.sound();
-        hide_round(&mut self.arena, t);
-        self.arena.sound();
-        self.arena.hide(End::Trans, t);
-        self.arena.sound();
-        self.marks.push_reserved(mark);
+        let start = edit_start(&self.arena);
+        add_pair_places(&mut self.arena, t);
+        remove_round(&mut self.arena, t);
+        self.arena.remove(End::Trans, t);
+        self.starts.push_reserved(start);
     }
 
     /// Takes the last edit back: the draft before it is the draft again.
@@ -349,12 +335,9 @@ impl Editor {
         ensures undone { self.new.undone ≡ min (self.old.undone + 1) (2 ^ 64 - 1) }
         ensures signals { self.new.signals ≡ self.old.signals }
     {
-        self.arena.sound();
-        let mark = self.marks.take_last();
-        self.arena.show_to(mark.moment);
-        self.arena.sound();
-        self.arena.pop_to(mark.cells);
-        self.arena.sound();
+        let start = self.starts.take_last();
+        self.arena.revive_to(start.moment);
+        self.arena.pop_to(start.cells);
         self.undone = self.undone.saturating_add(1);
     }
 
@@ -365,12 +348,11 @@ impl Editor {
         ensures value { IfOk result (λ n. IsNetOf self.now own.now n) }
         ensures arcs { IfOk result (λ n. length n.arcs ≡ count_arcs self.now.now) }
     {
-        self.sound();
         let alloc = self.alloc;
         let kept = list_signals(alloc, self)?;
         let places = list_places(alloc, self)?;
         let trans = list_trans(alloc, self)?;
-        let signals = show_signals(alloc, self.signals(), own.as_slice(), kept.as_slice())?;
+        let signals = net_signals(alloc, self.signals(), own.as_slice(), kept.as_slice())?;
         let names = list_names(
             alloc,
             self,
@@ -388,40 +370,6 @@ impl Editor {
         ensures edits { result.edits ≡ length self.past }
         ensures undone { result.undone ≡ self.undone }
     {
-        Wear::of(self.marks.len() as u64, self.undone)
+        Wear::of(self.starts.len() as u64, self.undone)
     }
-}
-
-/// The mark of an edit that begins now.
-fn make_mark(arena: &Arena) -> Mark
-    ensures { result ≡ present arena.now }
-{
-    Mark {
-        moment: arena.moment(),
-        places: arena.count_places(),
-        cells: arena.count_cells(),
-    }
-}
-
-fn copy_signals(alloc: Global, signals: &[Signal]) -> Result<Seq<Signal>, NoMemory>
-    ensures { IfOk result (λ list. list ≡ signals.now) }
-{
-    let mut list = Seq::new(alloc);
-    for signal in signals {
-        list.push(signal.copy_as(alloc, signal.kind)?)?;
-    }
-    Ok(list)
-}
-
-/// For each signal, whether it is one of the known ones.
-fn mark_known(alloc: Global, signals: usize, known: &[u32]) -> Result<Vec<bool>, NoMemory>
-    requires { All (λ s. s < signals) known.now }
-    ensures flags { IfOk result (λ v. (s : ℕ) → slice_index_or v.items s false ≡ list_any (λ k. k == s) known.now) }
-    ensures len { IfOk result (λ v. length v.items ≡ signals) }
-{
-    let mut flags = vec![in alloc; false; signals]?;
-    for signal in known {
-        flags[*signal as usize] = true;
-    }
-    Ok(flags)
 }

@@ -1,21 +1,19 @@
 //! Graphs under work: edits that take no memory, and their exact undo.
 #![tactic(auto)]
 
-mod arena;
 mod build;
 mod compact;
+mod edit_start;
 mod editor;
-mod end;
-mod join;
-mod links;
+mod pair_places;
 mod round;
+mod signals;
 #[cfg(test)]
 mod tests;
-mod walk;
 mod wear;
 #[cfg(test)]
 mod worked;
 
 pub use editor::Editor;
-pub use walk::Walk;
+pub use stg_arena::Walk;
 pub use wear::Wear;

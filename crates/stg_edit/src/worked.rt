@@ -2,7 +2,7 @@
 
 ghost use Rattle.std.specs.Prelude.{◌≡◌, ◌<◌, ◌≤◌, ◌+◌, ℕ, map, length, IfOk};
 ghost use Rattle.stg_net.specs.Graph.{IsDummy};
-ghost use Rattle.stg_edit.specs.WorkedNets as nets;
+ghost use Rattle.stg_edit.specs.inner.WorkedNets as nets;
 
 use crate::Editor;
 use std::alloc::Global;

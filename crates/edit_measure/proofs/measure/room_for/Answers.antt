@@ -15,6 +15,6 @@ pub returns-clause-arcs : goal.returns-clause-arcs
 returns-clause-arcs c =
     let g = c.args.editor.now.now in
     let t = c.args.t in
-    let most : c.in-Some-checked_mul.most ≡ length g.trans * 2 = c.in-Some-checked_mul.ensures.1 ∙ ap (λ n. n * 2) c.all_trans.ensures in
+    let most : c.in-Some-checked_mul.most ≡ length g.trans * 2 = c.in-Some-checked_mul.ensures.1 ∙ ap (λ n. n * 2) c.all_trans.ensures.value in
     let made : c.in-Some-checked_mul-2.arcs ≡ c.in-Some.places * (length g.trans * 2) = c.in-Some-checked_mul-2.ensures.1 ∙ ap (λ n. c.in-Some.places * n) most in
     subst (λ n. new_arcs g t ≤ n) (sym made) (new_arcs-le g t c.in-Some.places (returns-clause-places c))

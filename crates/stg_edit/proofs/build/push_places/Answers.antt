@@ -1,21 +1,21 @@
 use Rattle.std.proofs.Common.{◌≡◌, ◌<◌, ℕ, length, get_or, subst, ap, arith}
-use Rattle.stg_edit.specs.declared.arena.Spot.{Spot}
-use Rattle.stg_edit.specs.Layout.{none}
-use Rattle.stg_edit.specs.Filling.{IsFilled}
-use Rattle.stg_edit.proofs.Filling.{starts, row_starts, all_arcs}
+use Rattle.stg_arena.specs.declared.cell.Spot.{Spot}
+use Rattle.stg_arena.specs.ArenaView.{none}
+use Rattle.stg_edit.specs.inner.Filling.{IsFilled}
+use Rattle.stg_edit.proofs.Filling.{starts, place_starts, all_arcs}
 use Rattle.stg_edit.proofs.build.push_places.Goals as goal
 
 pub loop-place-init : goal.loop-place-init
-loop-place-init c = starts c.args.net.now c.args.arena.now c.requires.small c.requires.bare
+loop-place-init c = starts c.args.net.now c.args.arena.now c.requires.small c.requires.empty
 
-pub push_row-at-requires : goal.push_row-at-requires
-push_row-at-requires c =
+pub push_place_arcs-at-requires : goal.push_place_arcs-at-requires
+push_place_arcs-at-requires c =
     let l = c.loop-place.arena in
     let p = c.loop-place.place in
     let tokens = c.tokens-tokens.ensures.tokens in
-    let s : Spot = record { head = length l.arcs; tokens = get_or c.tokens-tokens.result.now p 0; died = none } in
+    let s : Spot = record { head = length l.cells; tokens = get_or c.tokens-tokens.result.now p 0; removed_at = none } in
     let low : p < length c.args.net.now.tokens = omega (arith, c.loop-place-test.true, ap length tokens) in
-    row_starts c.args.net.now p c.loop-place.at l c.push_place.new.self s c.sound.ensures.laid c.loop-place.invariant c.push_place.ensures (ap (λ xs. get_or xs p 0) tokens) low
+    place_starts c.args.net.now p c.loop-place.at l c.push_place.new.self s c.loop-place.invariant.arena.laid c.loop-place.invariant c.push_place.ensures.pushed c.push_place.ensures.arena (ap (λ xs. get_or xs p 0) tokens) low
 
 pub returns : goal.returns
 returns c =

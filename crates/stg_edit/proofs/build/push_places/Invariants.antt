@@ -1,4 +1,4 @@
-use Rattle.stg_edit.specs.Filling.{IsFilled}
+use Rattle.stg_edit.specs.inner.Filling.{IsFilled}
 use Rattle.stg_edit.proofs.build.push_places.Given as goal
 
 abbrev pub invariant-loop-place : goal.invariant-loop-place

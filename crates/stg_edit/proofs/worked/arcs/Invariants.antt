@@ -1,5 +1,5 @@
 use Rattle.std.proofs.Common.{◌≡◌, map, take}
-use Rattle.stg_edit.specs.WorkedNets.{arc}
+use Rattle.stg_edit.specs.inner.WorkedNets.{arc}
 use Rattle.stg_edit.proofs.worked.arcs.Given as goal
 
 abbrev pub invariant-loop-place : goal.invariant-loop-place

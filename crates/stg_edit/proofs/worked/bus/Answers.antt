@@ -1,6 +1,6 @@
 use Rattle.std.proofs.Common.{sym, subst, ◌∙◌}
 use Rattle.stg_net.specs.Net.{IsNet}
-use Rattle.stg_edit.specs.WorkedNets.{bus}
+use Rattle.stg_edit.specs.inner.WorkedNets.{bus}
 use Rattle.stg_edit.proofs.WorkedNets.{bus-net, same_net}
 use Rattle.stg_edit.proofs.worked.bus.Goals as goal
 

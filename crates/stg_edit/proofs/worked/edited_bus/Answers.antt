@@ -1,5 +1,5 @@
 use Rattle.std.proofs.Common.{◌≡◌, ◌∙◌, ap, arith}
-use Rattle.stg_edit.specs.WorkedNets.{bus_after}
+use Rattle.stg_edit.specs.inner.WorkedNets.{bus_after}
 use Rattle.stg_edit.proofs.WorkedNets.{bus-shown}
 use Rattle.stg_edit.proofs.worked.edited_bus.Goals as goal
 

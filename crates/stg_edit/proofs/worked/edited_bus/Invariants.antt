@@ -1,4 +1,4 @@
-use Rattle.stg_edit.specs.WorkedNets.{IsAt}
+use Rattle.stg_edit.specs.inner.WorkedNets.{IsAt}
 use Rattle.stg_edit.proofs.worked.edited_bus.Given as goal
 
 abbrev pub invariant-loop-k : goal.invariant-loop-k

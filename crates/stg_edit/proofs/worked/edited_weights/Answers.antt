@@ -6,7 +6,7 @@ use Rattle.stg_net.specs.Graph.{Graph, IsDummy}
 use Rattle.stg_net.specs.Initial.{initial}
 use Rattle.stg_edit.specs.Replacing.{IsSmallPair, new_places, new_arcs}
 use Rattle.stg_net.specs.Contraction.{pairs_round}
-use Rattle.stg_edit.specs.WorkedNets.{weights}
+use Rattle.stg_edit.specs.inner.WorkedNets.{weights}
 use Rattle.stg_edit.proofs.WorkedNets.{weights-within, weights-can, light-pairs, started, below}
 use Rattle.stg_edit.proofs.worked.edited_weights.Goals as goal
 

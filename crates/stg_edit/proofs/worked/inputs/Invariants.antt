@@ -1,5 +1,5 @@
 use Rattle.std.proofs.Common.{◌≡◌, map, take}
-use Rattle.stg_edit.specs.WorkedNets.{input}
+use Rattle.stg_edit.specs.inner.WorkedNets.{input}
 use Rattle.stg_edit.proofs.worked.inputs.Given as goal
 
 abbrev pub invariant-loop-name : goal.invariant-loop-name

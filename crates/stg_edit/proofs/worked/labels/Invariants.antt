@@ -1,5 +1,5 @@
 use Rattle.std.proofs.Common.{◌≡◌, map, take}
-use Rattle.stg_edit.specs.WorkedNets.{label}
+use Rattle.stg_edit.specs.inner.WorkedNets.{label}
 use Rattle.stg_edit.proofs.worked.labels.Given as goal
 
 abbrev pub invariant-loop-signal : goal.invariant-loop-signal

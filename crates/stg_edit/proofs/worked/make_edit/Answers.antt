@@ -1,9 +1,8 @@
-use Rattle.std.proofs.Common.{ℕ, All, slice_index, sym, subst, ◌∙◌, ap, arith}
-use Rattle.std.proofs.lemmas.Bool.{false≢true}
-use Rattle.stg_net.specs.Graph.{Graph, IsPlace, IsDummy}
+use Rattle.std.proofs.Common.{All, slice_index, sym, subst, ◌∙◌, ap, arith}
+use Rattle.stg_net.specs.Graph.{IsPlace, IsDummy}
 use Rattle.stg_net.specs.Contraction.{pairs_round}
 use Rattle.stg_edit.specs.Replacing.{IsSmallPair, new_places, new_arcs}
-use Rattle.stg_edit.specs.WorkedNets.{bus_trans, bus_after}
+use Rattle.stg_edit.specs.inner.WorkedNets.{bus_trans, bus_after}
 use Rattle.stg_edit.proofs.WorkedNets.{bus-can, bus-place, bus-drop, bus-replace, light-pairs}
 use Rattle.stg_edit.proofs.worked.make_edit.Goals as goal
 

@@ -1,8 +1,8 @@
-use Rattle.std.proofs.Common.{◌≡◌, ◌<◌, [], ◌∷◌, All, length, refl, sym, subst, ◌∙◌, ap, arith}
+use Rattle.std.proofs.Common.{◌<◌, [], ◌∷◌, All, length, refl, sym, subst, ◌∙◌, ap}
 use Rattle.stg_net.specs.declared.limits.TheConstants.Limits.{PART}
 use Rattle.stg_net.specs.Net.{IsWithin}
 use Rattle.stg_edit.specs.Editing.{Editing}
-use Rattle.stg_edit.specs.WorkedNets.{bus, bus_after}
+use Rattle.stg_edit.specs.inner.WorkedNets.{bus, bus_after}
 use Rattle.stg_edit.proofs.WorkedNets.{bus-within, started, below}
 use Rattle.stg_edit.proofs.worked.new_bus.Goals as goal
 

@@ -1,6 +1,6 @@
 use Rattle.std.proofs.Common.{sym, subst, ◌∙◌}
 use Rattle.stg_net.specs.Net.{IsNet}
-use Rattle.stg_edit.specs.WorkedNets.{weights}
+use Rattle.stg_edit.specs.inner.WorkedNets.{weights}
 use Rattle.stg_edit.proofs.WorkedNets.{weights-net, same_net}
 use Rattle.stg_edit.proofs.worked.weights.Goals as goal
 

@@ -13,9 +13,9 @@ loop-p-preserved c =
     let more = sum_more (count_arcs_at g) (λ p. is_some (place_at g p)) p in
     elim c.if-is_place.branch [
       | then-is_place w ↦
-          let live : is_some (place_at g p) ≡ true = c.is_place.ensures.0 w.if-is_place.true in
+          let live : is_some (place_at g p) ≡ true = c.is_place.ensures.value.0 w.if-is_place.true in
           omega (arith, w.count-is, w.saturating_add-count.ensures, w.arcs_at.ensures, c.loop-p.invariant, more, ap (λ z. cond z (count_arcs_at g p) 0) live)
       | else-is_place w ↦
-          let dead : is_some (place_at g p) ≡ false = false_from_ne_true (is_some (place_at g p)) (λ e. false≢true (sym w.if-is_place.false ∙ c.is_place.ensures.1 e)) in
-          omega (arith, w.count-is, c.loop-p.invariant, more, ap (λ z. cond z (count_arcs_at g p) 0) dead)
+          let not_live : is_some (place_at g p) ≡ false = false_from_ne_true (is_some (place_at g p)) (λ e. false≢true (sym w.if-is_place.false ∙ c.is_place.ensures.value.1 e)) in
+          omega (arith, w.count-is, c.loop-p.invariant, more, ap (λ z. cond z (count_arcs_at g p) 0) not_live)
     ]

@@ -4,7 +4,7 @@ use Rattle.std.proofs.lemmas.List.{get_or_default}
 use Rattle.stg_net.specs.Net.{signal_at}
 use Rattle.stg_net.specs.Graph.{is_among}
 use Rattle.stg_edit.specs.Editing.{Editing}
-use Rattle.stg_edit.proofs.Shown.{among_known}
+use Rattle.stg_edit.proofs.DraftOfLive.{among_known}
 use Rattle.stg_edit.proofs.editor.Editor.is_known.Goals as goal
 
 pub index-requires : goal.index-requires

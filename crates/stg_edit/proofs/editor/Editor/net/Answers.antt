@@ -1,17 +1,15 @@
 use Rattle.std.proofs.Common.{◌≡◌, ◌<◌, ◌^◌, ℕ, true, List, All, map, length, sym, ap, subst, ◌∙◌}
 use Rattle.stg_net.specs.declared.signal.Signal.{Signal}
-use Rattle.stg_net.specs.Graph.{IsPlace, IsTrans, has_signal_of, full_name_at}
-use Rattle.stg_net.specs.Net.{NetLists}
+use Rattle.stg_net.specs.Graph.{IsPlace, IsTrans, has_signal_of, full_name_at, is_among}
+use Rattle.stg_net.specs.Net.{NetLists, signal_at}
 use Rattle.stg_edit.specs.Counted.{live_places}
-use Rattle.stg_edit.specs.Compacted.{live_trans, known_signals, signal_shown, IsNetOf}
-use Rattle.stg_edit.specs.Packing.{IsShownBy}
-use Rattle.stg_edit.proofs.Compacting.{listed_from, all_of, kept_below, shown_by, none_hidden, trans_live, places_live, trans_below, few_trans, few_places, few_signals, listed_shows, listed_count, listed_is_net}
-use Rattle.stg_net.specs.Graph.{is_among}
-use Rattle.stg_net.specs.Net.{signal_at}
+use Rattle.stg_edit.specs.Compacted.{live_trans, known_signals, net_signal, IsNetOf}
+use Rattle.stg_edit.specs.inner.Packing.{HaveNamesOf}
+use Rattle.stg_edit.proofs.Compacting.{listed_from, all_of, kept_below, names_of_kept, none_hidden, trans_live, places_live, trans_below, few_trans, few_places, few_signals, listed_is_net_of, listed_count, listed_is_net}
 use Rattle.stg_edit.proofs.editor.Editor.net.Goals as goal
 
-pub show_signals-requires : goal.show_signals-requires
-show_signals-requires c =
+pub net_signals-requires : goal.net_signals-requires
+net_signals-requires c =
     let e = c.args.self.now in
     let same : c.as_slice-2.result.now ≡ known_signals e.signals e.now = c.as_slice-2.ensures ∙ c.in_ok-kept.ensures in
     let long : length e.signals ≡ length c.signals.result.now = sym (ap length c.signals.ensures.value) in
@@ -31,21 +29,21 @@ list_names-requires-clause-known c =
 pub list_names-requires-clause-kept : goal.list_names-requires-clause-kept
 list_names-requires-clause-kept c = c.as_slice-4.ensures ∙ c.in_ok-kept.ensures
 
-pub list_names-requires-clause-shown : goal.list_names-requires-clause-shown
-list_names-requires-clause-shown c =
+pub list_names-requires-clause-names : goal.list_names-requires-clause-names
+list_names-requires-clause-names c =
     let e = c.args.self.now in
     let kept : c.as_slice-2.result.now ≡ c.as_slice-4.result.now = c.as_slice-2.ensures ∙ sym c.as_slice-4.ensures in
-    let same : map (signal_shown e.signals c.args.own.now) c.as_slice-4.result.now ≡ c.as_slice-3.result.now =
-    sym (c.as_slice-3.ensures ∙ c.in_ok-signals.ensures ∙ (λ i. map (signal_shown (c.signals.ensures.value i) (c.as_slice.ensures i)) (kept i))) in
-    subst (IsShownBy e.signals c.as_slice-4.result.now) same (shown_by e.signals c.args.own.now c.as_slice-4.result.now)
+    let same : map (net_signal e.signals c.args.own.now) c.as_slice-4.result.now ≡ c.as_slice-3.result.now =
+    sym (c.as_slice-3.ensures ∙ c.in_ok-signals.ensures ∙ (λ i. map (net_signal (c.signals.ensures.value i) (c.as_slice.ensures i)) (kept i))) in
+    subst (HaveNamesOf e.signals c.as_slice-4.result.now) same (names_of_kept e.signals c.args.own.now c.as_slice-4.result.now)
 
 pub list_names-requires-clause-fit : goal.list_names-requires-clause-fit
 list_names-requires-clause-fit c =
     let e = c.args.self.now in
     let kept : c.as_slice-2.result.now ≡ known_signals e.signals e.now = c.as_slice-2.ensures ∙ c.in_ok-kept.ensures in
-    let same : map (signal_shown e.signals c.args.own.now) (known_signals e.signals e.now) ≡ c.as_slice-3.result.now =
-    sym (c.as_slice-3.ensures ∙ c.in_ok-signals.ensures ∙ (λ i. map (signal_shown (c.signals.ensures.value i) (c.as_slice.ensures i)) (kept i))) in
-    subst (λ (xs : List Signal). length xs < 2 ^ 32) same (few_signals e.signals c.args.own.now e.now c.sound.ensures.signals_fit)
+    let same : map (net_signal e.signals c.args.own.now) (known_signals e.signals e.now) ≡ c.as_slice-3.result.now =
+    sym (c.as_slice-3.ensures ∙ c.in_ok-signals.ensures ∙ (λ i. map (net_signal (c.signals.ensures.value i) (c.as_slice.ensures i)) (kept i))) in
+    subst (λ (xs : List Signal). length xs < 2 ^ 32) same (few_signals e.signals c.args.own.now e.now c.signals.ensures.draft.signals_fit)
 
 pub list_tokens-requires : goal.list_tokens-requires
 list_tokens-requires c =
@@ -65,12 +63,12 @@ list_arcs-requires-clause-there c =
 pub list_arcs-requires-clause-fit : goal.list_arcs-requires-clause-fit
 list_arcs-requires-clause-fit c =
     let g = c.args.self.now.now in
-    subst (λ (xs : List ℕ). length xs < 2 ^ 32) (sym (c.as_slice-8.ensures ∙ c.in_ok-trans.ensures)) (few_trans g c.sound.ensures.trans_fit)
+    subst (λ (xs : List ℕ). length xs < 2 ^ 32) (sym (c.as_slice-8.ensures ∙ c.in_ok-trans.ensures)) (few_trans g c.signals.ensures.draft.trans_fit)
 
 pub list_arcs-requires-clause-places_fit : goal.list_arcs-requires-clause-places_fit
 list_arcs-requires-clause-places_fit c =
     let g = c.args.self.now.now in
-    subst (λ (xs : List ℕ). length xs < 2 ^ 32) (sym (c.as_slice-7.ensures ∙ c.in_ok-places.ensures)) (few_places g c.sound.ensures.places_fit)
+    subst (λ (xs : List ℕ). length xs < 2 ^ 32) (sym (c.as_slice-7.ensures ∙ c.in_ok-places.ensures)) (few_places g c.signals.ensures.draft.places_fit)
 
 pub of-requires : goal.of-requires
 of-requires c =
@@ -79,9 +77,9 @@ of-requires c =
     let listed =
     listed_from e c.args.own.now n c.as_slice-3.result.now c.as_slice-2.result.now c.as_slice-5.result.now c.as_slice-6.result.now c.as_slice-7.result.now c.as_slice-8.result.now
     (c.as_slice-2.ensures ∙ c.in_ok-kept.ensures) (c.as_slice-5.ensures ∙ c.in_ok-trans.ensures) (c.as_slice-6.ensures ∙ c.in_ok-places.ensures) (c.as_slice-7.ensures ∙ c.in_ok-places.ensures) (c.as_slice-8.ensures ∙ c.in_ok-trans.ensures)
-    (c.in_ok-signals.ensures ∙ (λ i. map (signal_shown (c.signals.ensures.value i) (c.as_slice.ensures i)) c.as_slice-2.result.now))
+    (c.in_ok-signals.ensures ∙ (λ i. map (net_signal (c.signals.ensures.value i) (c.as_slice.ensures i)) c.as_slice-2.result.now))
     c.as_slice-3.ensures c.in_ok-names.ensures.names c.in_ok-names.ensures.there c.in_ok-tokens.ensures c.in_ok-arcs.ensures in
-    listed_is_net e c.args.own.now n c.sound.ensures listed
+    listed_is_net e c.args.own.now n c.signals.ensures.draft listed
 
 pub returns-clause-value : goal.returns-clause-value
 returns-clause-value c =
@@ -90,9 +88,9 @@ returns-clause-value c =
     let listed =
     listed_from e c.args.own.now n c.as_slice-3.result.now c.as_slice-2.result.now c.as_slice-5.result.now c.as_slice-6.result.now c.as_slice-7.result.now c.as_slice-8.result.now
     (c.as_slice-2.ensures ∙ c.in_ok-kept.ensures) (c.as_slice-5.ensures ∙ c.in_ok-trans.ensures) (c.as_slice-6.ensures ∙ c.in_ok-places.ensures) (c.as_slice-7.ensures ∙ c.in_ok-places.ensures) (c.as_slice-8.ensures ∙ c.in_ok-trans.ensures)
-    (c.in_ok-signals.ensures ∙ (λ i. map (signal_shown (c.signals.ensures.value i) (c.as_slice.ensures i)) c.as_slice-2.result.now))
+    (c.in_ok-signals.ensures ∙ (λ i. map (net_signal (c.signals.ensures.value i) (c.as_slice.ensures i)) c.as_slice-2.result.now))
     c.as_slice-3.ensures c.in_ok-names.ensures.names c.in_ok-names.ensures.there c.in_ok-tokens.ensures c.in_ok-arcs.ensures in
-    subst (IsNetOf e c.args.own.now) (sym c.of.ensures) (listed_shows e c.args.own.now n listed)
+    subst (IsNetOf e c.args.own.now) (sym c.of.ensures) (listed_is_net_of e c.args.own.now n listed)
 
 pub returns-clause-arcs : goal.returns-clause-arcs
 returns-clause-arcs c =
@@ -101,6 +99,6 @@ returns-clause-arcs c =
     let listed =
     listed_from e c.args.own.now n c.as_slice-3.result.now c.as_slice-2.result.now c.as_slice-5.result.now c.as_slice-6.result.now c.as_slice-7.result.now c.as_slice-8.result.now
     (c.as_slice-2.ensures ∙ c.in_ok-kept.ensures) (c.as_slice-5.ensures ∙ c.in_ok-trans.ensures) (c.as_slice-6.ensures ∙ c.in_ok-places.ensures) (c.as_slice-7.ensures ∙ c.in_ok-places.ensures) (c.as_slice-8.ensures ∙ c.in_ok-trans.ensures)
-    (c.in_ok-signals.ensures ∙ (λ i. map (signal_shown (c.signals.ensures.value i) (c.as_slice.ensures i)) c.as_slice-2.result.now))
+    (c.in_ok-signals.ensures ∙ (λ i. map (net_signal (c.signals.ensures.value i) (c.as_slice.ensures i)) c.as_slice-2.result.now))
     c.as_slice-3.ensures c.in_ok-names.ensures.names c.in_ok-names.ensures.there c.in_ok-tokens.ensures c.in_ok-arcs.ensures in
-    ap (λ (m : NetLists). length m.arcs) c.of.ensures ∙ listed_count e c.args.own.now n c.sound.ensures listed
+    ap (λ (m : NetLists). length m.arcs) c.of.ensures ∙ listed_count e c.args.own.now n c.signals.ensures.draft listed

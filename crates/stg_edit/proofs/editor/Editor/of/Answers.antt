@@ -2,13 +2,13 @@ use Rattle.std.proofs.Common.{◌≢◌, ◌<◌, ◌==◌, ℕ, List, All, AllP
 use Rattle.std.specs.List.{list_any}
 use Rattle.stg_net.specs.declared.signal.Signal.{Signal}
 use Rattle.stg_net.specs.declared.trans.TransName.{TransName}
-use Rattle.stg_edit.specs.declared.editor.Mark.{Mark}
-use Rattle.stg_edit.specs.Drafting.{IsMarked}
-use Rattle.stg_edit.proofs.Marked.{marked_first}
+use Rattle.stg_edit.specs.declared.edit_start.EditStart.{EditStart}
+use Rattle.stg_edit.specs.inner.DraftAt.{AreEditStarts}
+use Rattle.stg_edit.proofs.EditStarts.{starts_first}
 use Rattle.stg_net.specs.Net.{signal_at}
-use Rattle.stg_edit.specs.Editing.{name_in}
-use Rattle.stg_edit.specs.View.{base_of}
-use Rattle.stg_edit.proofs.Filling.{shows_initial}
+use Rattle.stg_edit.specs.Editing.{full_name_in}
+use Rattle.stg_edit.specs.inner.View.{base_of}
+use Rattle.stg_edit.proofs.Filling.{initial_table}
 use Rattle.stg_edit.proofs.editor.Editor.of.Goals as goal
 
 record Signals : Type 0 where
@@ -22,8 +22,8 @@ returns-clause-now c =
     let signals = c.in_ok-copy_signals.ensures ∙ c.signals.ensures.signals in
     let names = c.in_ok-from_slice.ensures ∙ c.trans.ensures.trans in
     let known = c.in_ok-from_slice-2.ensures ∙ c.as_slice.ensures in
-    shows_initial n c.args.known.now (base_of c.in_ok-copy_signals.field-0 c.in_ok-from_slice.field-0 c.in_ok-from_slice-2.field-0 (length c.tokens.result.now)) c.in_ok-arena.arena c.in_ok-arena.ensures
-    (λ i. map (name_in (signals i)) (names i)) (λ i. map (λ s. (signal_at (signals i) s).name) (known i)) (ap length c.tokens.ensures.tokens)
+    initial_table n c.args.known.now (base_of c.in_ok-copy_signals.field-0 c.in_ok-from_slice.field-0 c.in_ok-from_slice-2.field-0 (length c.tokens.result.now)) c.in_ok-arena.arena c.in_ok-arena.ensures
+    (λ i. map (full_name_in (signals i)) (names i)) (λ i. map (λ s. (signal_at (signals i) s).name) (known i)) (ap length c.tokens.ensures.tokens)
 
 pub invariant_of-result : goal.invariant_of-result
 invariant_of-result c =
@@ -34,17 +34,18 @@ invariant_of-result c =
     let signals = c.in_ok-copy_signals.ensures ∙ c.signals.ensures.signals in
     let names = c.in_ok-from_slice.ensures ∙ c.trans.ensures.trans in
     let known = c.in_ok-from_slice-2.ensures ∙ c.as_slice.ensures in
-    let P : List Mark → Type 0 = λ ms. IsMarked l ms in
+    let P : List EditStart → Type 0 = λ ms. AreEditStarts l ms in
     let R : List TransName → List Signal → Type 0 = λ names signals. All (λ (t : TransName). t.signal < length signals) names in
     let K : List ℕ → List Signal → Type 0 = λ known signals. All (λ s. s < length signals) known in
     let D : List Signal → Type 0 = λ signals. AllPairs (λ (s t : Signal). s.name ≢ t.name) signals in
     let E : List TransName → Type 0 = λ names. AllPairs (λ (s t : TransName). s ≢ t) names in
     record {
-      marked = subst P (sym c.new.ensures.items) (marked_first l c.sound.ensures.timed c.sound.ensures.laid);
+      arena = f.arena;
+      are_starts = subst P (sym c.new.ensures.items) (starts_first l c.in_ok-arena.ensures.arena.timed c.in_ok-arena.ensures.arena.laid);
       room = omega arith;
-      log_long = omega (arith, f.log_room, f.place_room, f.trans);
+      removals_long = omega (arith, f.removals_room, f.places_room, f.trans);
       long = omega arith;
-      roomy = omega (arith, f.room, f.places, f.place_room);
+      roomy = omega (arith, f.room, f.places, f.places_room);
       names_long = ap length names ∙ sym f.trans;
       named = record {
         in_range = let Q : Signals → Type 0 = λ x. R x.names x.signals in subst Q (λ i. record { signals = sym signals i; names = sym names i; known = sym known i }) net.trans_signals;
@@ -52,7 +53,7 @@ invariant_of-result c =
         names_differ = subst D (sym signals) net.signal_names;
         trans_differ = subst E (sym names) net.trans_names;
         signals_fit = rw signals net.signals_fit;
-        flagged = λ s. c.in_ok-mark_known.ensures.flags s ∙ ap (list_any (λ k. k == s)) (c.as_slice-2.ensures ∙ sym known);
-        flags_long = c.in_ok-mark_known.ensures.len ∙ ap length (c.signals-2.ensures.signals ∙ sym signals);
+        flagged = λ s. c.in_ok-known_flags.ensures.flags s ∙ ap (list_any (λ k. k == s)) (c.as_slice-2.ensures ∙ sym known);
+        flags_long = c.in_ok-known_flags.ensures.len ∙ ap length (c.signals-2.ensures.signals ∙ sym signals);
       };
     }

@@ -12,9 +12,9 @@ loop-p-preserved c =
     let more = length_more (λ p. is_some (place_at g p)) p in
     elim c.if-is_place.branch [
       | then-is_place w ↦
-          let live : is_some (place_at g p) ≡ true = c.is_place.ensures.0 w.if-is_place.true in
+          let live : is_some (place_at g p) ≡ true = c.is_place.ensures.value.0 w.if-is_place.true in
           record { counted = omega (arith, w.count-is, c.loop-p.invariant.counted, more, ap {B = ℕ} (λ z. cond z 1 0) live); few = omega (arith, w.count-is, c.loop-p.invariant.few) }
       | else-is_place w ↦
-          let dead : is_some (place_at g p) ≡ false = false_from_ne_true (is_some (place_at g p)) (λ e. false≢true (sym w.if-is_place.false ∙ c.is_place.ensures.1 e)) in
-          record { counted = omega (arith, w.count-is, c.loop-p.invariant.counted, more, ap {B = ℕ} (λ z. cond z 1 0) dead); few = omega (arith, w.count-is, c.loop-p.invariant.few) }
+          let not_live : is_some (place_at g p) ≡ false = false_from_ne_true (is_some (place_at g p)) (λ e. false≢true (sym w.if-is_place.false ∙ c.is_place.ensures.value.1 e)) in
+          record { counted = omega (arith, w.count-is, c.loop-p.invariant.counted, more, ap {B = ℕ} (λ z. cond z 1 0) not_live); few = omega (arith, w.count-is, c.loop-p.invariant.few) }
     ]

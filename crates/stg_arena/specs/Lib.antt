@@ -1,0 +1,13 @@
+pub mod Appends
+pub mod ArenaView
+pub mod EmptyArena
+pub mod Ends
+pub mod Extends
+pub mod Incidence
+pub mod LinkHistory
+pub mod Ring
+pub mod RingWalk
+pub mod Room
+pub mod Truncation
+pub mod WalkItems
+pub mod inner

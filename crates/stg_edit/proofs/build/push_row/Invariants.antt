@@ -1,9 +1,0 @@
-use Rattle.std.proofs.Common.{◌-◌, length}
-use Rattle.stg_edit.specs.Filling.{IsInRow}
-use Rattle.stg_edit.proofs.build.push_row.Given as goal
-
-abbrev pub invariant-loop-arcs : goal.invariant-loop-arcs
-invariant-loop-arcs l = IsInRow l.net l.place l.at l.arena
-
-abbrev pub decreases-loop-arcs : goal.decreases-loop-arcs
-decreases-loop-arcs l = length l.arcs - l.at

@@ -1,9 +1,0 @@
-use Rattle.stg_edit.proofs.Pairing.{to_go}
-use Rattle.stg_edit.proofs.Rounds.{IsHidingRound}
-use Rattle.stg_edit.proofs.round.hide_round.Given as goal
-
-abbrev pub invariant-loop-x : goal.invariant-loop-x
-invariant-loop-x l = IsHidingRound l.t l.initial.arena l.arena l.x
-
-abbrev pub decreases-loop-x : goal.decreases-loop-x
-decreases-loop-x l = to_go l.t l.x
