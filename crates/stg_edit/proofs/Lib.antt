@@ -9,6 +9,7 @@ pub mod EditStarts
 pub mod Examples
 pub mod Filling
 pub mod Lists
+pub mod LiveEnds
 pub mod NewPlaces
 pub mod Packing
 pub mod PairPlaces

@@ -147,6 +147,7 @@ impl Editor {
     pub fn takes(&self, t: u32) -> Walk<'_>
         requires { IsTrans self.now.now t }
         ensures value { result ≡ taken_places self.now.now t }
+        ensures live { All (λ x. IsPlace self.now.now x.0) result }
         ensures draft { IsDraft self.now }
     {
         self.walk(End::Trans, Way::Take, t)
@@ -156,6 +157,7 @@ impl Editor {
     pub fn gives(&self, t: u32) -> Walk<'_>
         requires { IsTrans self.now.now t }
         ensures value { result ≡ given_places self.now.now t }
+        ensures live { All (λ x. IsPlace self.now.now x.0) result }
         ensures draft { IsDraft self.now }
     {
         self.walk(End::Trans, Way::Give, t)
@@ -165,6 +167,7 @@ impl Editor {
     pub fn takers(&self, p: u32) -> Walk<'_>
         requires { IsPlace self.now.now p }
         ensures value { result ≡ taking_trans self.now.now p }
+        ensures live { All (λ x. IsTrans self.now.now x.0) result }
         ensures draft { IsDraft self.now }
     {
         self.walk(End::Place, Way::Take, p)
@@ -174,6 +177,7 @@ impl Editor {
     pub fn givers(&self, p: u32) -> Walk<'_>
         requires { IsPlace self.now.now p }
         ensures value { result ≡ giving_trans self.now.now p }
+        ensures live { All (λ x. IsTrans self.now.now x.0) result }
         ensures draft { IsDraft self.now }
     {
         self.walk(End::Place, Way::Give, p)

@@ -1,0 +1,9 @@
+use Rattle.std.proofs.Common.{ℕ, List, All, sym, subst}
+use Rattle.stg_net.specs.Graph.{IsTrans}
+use Rattle.stg_edit.proofs.LiveEnds.{taking_live}
+use Rattle.stg_edit.proofs.editor.Editor.takers.Goals as goal
+
+pub returns-clause-live : goal.returns-clause-live
+returns-clause-live c =
+    let P : List (ℕ × ℕ) → Type 0 = All (λ (x : ℕ × ℕ). IsTrans c.args.self.now.now x.0) in
+    subst P (sym c.walk.ensures.value) (taking_live c.args.self.now.now c.args.p c.walk.ensures.draft.weightless)
