@@ -1,19 +1,15 @@
 -- Counts of live places and of arcs.
-use Rattle.std.proofs.Common.{◌^◌, ◌≡◌, ◌≤◌, ◌<◌, ◌+◌, ◌++◌, ◌∷◌, [], ℕ, zero, suc, Bool, true, false, cond, filter, length, ap, ◌∙◌, refl, zero-add, arith, ◌-◌, min}
+use Rattle.std.proofs.Common.{◌≡◌, ◌≤◌, ◌+◌, ◌++◌, ◌∷◌, [], ℕ, zero, suc, Bool, true, false, cond, filter, length, ap, ◌∙◌, refl, zero-add, arith, ◌-◌, min}
 use Rattle.std.specs.List.{range_with_len, sum_by}
 use Rattle.std.proofs.lemmas.List.{length-append}
 use Rattle.std.proofs.lemmas.List.Elements.{filter-append}
-use Rattle.std.proofs.lemmas.List.FromFn.{length-map-range_with_len}
 use Rattle.std.proofs.lemmas.List.Sums.{sum_by-append, sum_by-cons}
-use Rattle.stg_arena.specs.declared.end.End.TheVariants.{Trans}
-use Rattle.stg_arena.specs.ArenaView.{Layout, IsLaid}
 use Rattle.stg_arena.specs.WalkItems.{weighted}
 use Rattle.stg_arena.proofs.Appends.{weighted_more, weighted_up}
-use Rattle.stg_edit.specs.inner.DraftAt.{Base, draft_name, now_of}
 use Rattle.stg_edit.specs.Walks.{arcs_below}
 
 -- one more number
-range_more : (n a j : ℕ) → a + n ≡ j → range_with_len a (n + 1) ≡ range_with_len a n ++ j ∷ []
+pub range_more : (n a j : ℕ) → a + n ≡ j → range_with_len a (n + 1) ≡ range_with_len a n ++ j ∷ []
 range_more zero a j e = λ i. (let z : a ≡ j = omega arith in z) i ∷ []
 range_more (suc n) a j e = ap (range_with_len a) (let z : suc n + 1 ≡ suc (n + 1) = omega arith in z) ∙ ap (λ xs. a ∷ xs) (range_more n (a + 1) j (omega arith))
 

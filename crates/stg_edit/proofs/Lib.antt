@@ -3,6 +3,7 @@ pub mod Counted
 pub mod DraftChanges
 pub mod DraftFacts
 pub mod DraftOfLive
+pub mod DraftSizes
 pub mod DraftTables
 pub mod DraftWalks
 pub mod EditStarts
@@ -13,8 +14,10 @@ pub mod LiveEnds
 pub mod NewPlaces
 pub mod Packing
 pub mod PairPlaces
+pub mod PlaceSums
 pub mod PresetRemoval
 pub mod Replacing
 pub mod RowMerge
 pub mod RowStep
+pub mod SizeLoops
 pub mod WorkedNets

@@ -22,7 +22,7 @@ pub record IsRemovingPlaces (t : ℕ) (l l' : Layout) (x : ℕ) : Type 0 where
   pub walking : IsWalking l' Trans t x
 
 -- between two cells of the walk nothing is touched
-untouched_between : (l : Layout) (t x z p : ℕ) → IsLaid l → IsTimed l → t < length l.trans → removed_at l Trans t ≡ none → IsWalking l Trans t x → IsNextAt (side l.cells Trans) (side l.cells Place) (times_of l) (length l.removals) x z → ((cell_at l.cells x).place ≡ none) ⊎ ((cell_at l.cells x).place < p) → p < (cell_at l.cells z).place → p < none → removed_at l Place p ≡ none → touch l t p ≡ 0
+pub untouched_between : (l : Layout) (t x z p : ℕ) → IsLaid l → IsTimed l → t < length l.trans → removed_at l Trans t ≡ none → IsWalking l Trans t x → IsNextAt (side l.cells Trans) (side l.cells Place) (times_of l) (length l.removals) x z → ((cell_at l.cells x).place ≡ none) ⊎ ((cell_at l.cells x).place < p) → p < (cell_at l.cells z).place → p < none → removed_at l Place p ≡ none → touch l t p ≡ 0
 untouched_between l t x z p laid timed range live w f above below small there =
     let small_t : t < none = omega (arith, laid.sizes Trans) in
     omega (

@@ -6,6 +6,7 @@ pub mod Nodes
 pub mod Packing
 pub mod RemovedPlaces
 pub mod RowMerge
+pub mod Sizes
 pub mod Table
 pub mod View
 pub mod WorkedNets

@@ -11,7 +11,7 @@ ghost use Rattle.stg_edit.specs.Compacted.{IsNetOf};
 ghost use Rattle.stg_edit.specs.Drafts.{IsDraft};
 ghost use Rattle.stg_edit.specs.inner.Nodes.{IsNode, walk_arcs, without_node};
 ghost use Rattle.stg_edit.specs.Walks.{taken_places, given_places, taking_trans, giving_trans};
-ghost use Rattle.stg_edit.specs.Counted.{live_places, count_arcs, count_arcs_at};
+ghost use Rattle.stg_edit.specs.Counted.{live_places, count_arcs};
 ghost use Rattle.stg_edit.specs.Editing.{IsAsMuch, less, one_edit_less, full_name_in};
 ghost use Rattle.stg_edit.specs.Replacing.{new_places, new_arcs, IsSmallPair};
 
@@ -21,6 +21,7 @@ use crate::edit_start::{EditStart, edit_start};
 use crate::pair_places::add_pair_places;
 use crate::round::remove_round;
 use crate::signals::{copy_signals, known_flags, net_signals};
+use crate::size::{Size, size_at, size_from, size_round};
 use crate::wear::Wear;
 use std::alloc::Global;
 use std::marker::Model;
@@ -39,6 +40,9 @@ pub struct Editor {
     /// For each signal, whether it is known.
     is_known: Vec<bool>,
     starts: Vec<EditStart>,
+    /// What the draft has, and what the drafts before each edit had.
+    size: Size,
+    sizes: Vec<Size>,
     edit_room: u32,
     first_places: u32,
     undone: u64,
@@ -57,7 +61,8 @@ impl Model for Editor {
 }
 
 impl Editor {
-    /// Makes the editor of a net in which these signals are known. All is live.
+    /// Makes the editor of a net in which these signals are known. All is live. Takes time for the
+    /// whole net.
     pub fn of(alloc: Global, net: &Net, known: &Nums) -> Result<Editor, NoMemory>
         requires within { IsWithin PART net.now }
         requires in_range { All (λ s. s < length net.now.signals) known.now }
@@ -68,6 +73,7 @@ impl Editor {
         ensures net { IfOk result (λ e. IsNet net.now) }
     {
         let arena = build(alloc, net)?;
+        let size = size_from(&arena, 0);
         Ok(Editor {
             alloc,
             arena,
@@ -76,6 +82,8 @@ impl Editor {
             known: Seq::from_slice(alloc, known.as_slice())?,
             is_known: known_flags(alloc, net.signals().len(), known.as_slice())?,
             starts: Vec::new(alloc),
+            size,
+            sizes: Vec::new(alloc),
             edit_room: 0,
             first_places: net.tokens().len() as u32,
             undone: 0,
@@ -83,7 +91,7 @@ impl Editor {
     }
 
     /// Makes at least so much spare. `NoMemory` comes also where the edits, places or arcs would
-    /// altogether pass 32 bits.
+    /// altogether pass 32 bits. A list for which there is too little room may be copied.
     pub fn reserve(&mut self, edits: u32, places: u32, arcs: u32) -> Result<(), NoMemory>
         ensures ok { OnOk result
             (IsAsMuch (record { edits = edits; places = places; arcs = arcs }) self.new.spare) }
@@ -96,6 +104,7 @@ impl Editor {
             return Err(NoMemory);
         }
         self.starts.reserve(edits as usize)?;
+        self.sizes.reserve(edits as usize)?;
         self.arena.reserve(places, arcs)?;
         self.edit_room = self.edit_room.max(edit_room as u32);
         Ok(())
@@ -143,7 +152,8 @@ impl Editor {
         self.names.as_slice()[t as usize]
     }
 
-    /// The places from which a live transition takes, with the weights.
+    /// The places from which a live transition takes, with the weights. The walk takes time
+    /// for the arcs of the transition alone.
     pub fn takes(&self, t: u32) -> Walk<'_>
         requires { IsTrans self.now.now t }
         ensures value { result ≡ taken_places self.now.now t }
@@ -153,7 +163,8 @@ impl Editor {
         self.walk(End::Trans, Way::Take, t)
     }
 
-    /// The places to which a live transition gives, with the weights.
+    /// The places to which a live transition gives, with the weights. The walk takes time
+    /// for the arcs of the transition alone.
     pub fn gives(&self, t: u32) -> Walk<'_>
         requires { IsTrans self.now.now t }
         ensures value { result ≡ given_places self.now.now t }
@@ -163,7 +174,8 @@ impl Editor {
         self.walk(End::Trans, Way::Give, t)
     }
 
-    /// The transitions that take from a live place, with the weights.
+    /// The transitions that take from a live place, with the weights. The walk takes time
+    /// for the arcs of the place alone.
     pub fn takers(&self, p: u32) -> Walk<'_>
         requires { IsPlace self.now.now p }
         ensures value { result ≡ taking_trans self.now.now p }
@@ -173,7 +185,8 @@ impl Editor {
         self.walk(End::Place, Way::Take, p)
     }
 
-    /// The transitions that give to a live place, with the weights.
+    /// The transitions that give to a live place, with the weights. The walk takes time
+    /// for the arcs of the place alone.
     pub fn givers(&self, p: u32) -> Walk<'_>
         requires { IsPlace self.now.now p }
         ensures value { result ≡ giving_trans self.now.now p }
@@ -192,38 +205,18 @@ impl Editor {
         Walk::of(&self.arena, end, way, node)
     }
 
-    /// The number of live places.
+    /// The number of live places. Takes constant time.
     pub fn places(&self) -> u32
         ensures { result ≡ length (live_places self.now.now) }
     {
-        let mut count = 0;
-        for p in 0..self.next_place() {
-            if self.is_place(p) {
-                count += 1;
-            }
-        }
-        count
+        self.size.places
     }
 
-    /// The number of arcs, or the last number of 32 bits where there are more.
+    /// The number of arcs, or the last number of 32 bits where there are more. Takes constant time.
     pub fn arcs(&self) -> u32
         ensures { result ≡ min (count_arcs self.now.now) (2 ^ 32 - 1) }
     {
-        let mut count = 0;
-        for p in 0..self.next_place() {
-            if self.is_place(p) {
-                count = self.arcs_at(p).saturating_add(count);
-            }
-        }
-        count.min(u32::MAX as u64) as u32
-    }
-
-    /// The number of arcs at a live place.
-    fn arcs_at(&self, p: u32) -> u64
-        requires { IsPlace self.now.now p }
-        ensures { result ≡ count_arcs_at self.now.now p }
-    {
-        self.takers(p).count() as u64 + self.givers(p).count() as u64
+        self.size.arcs.min(u32::MAX as u64) as u32
     }
 
     /// The number that the next new place gets.
@@ -266,7 +259,7 @@ impl Editor {
         self.first_places
     }
 
-    /// Deletes a place with its arcs.
+    /// Deletes a place with its arcs. Takes time for these alone.
     pub fn drop_place(&mut self, p: u32)
         requires live { IsPlace self.old.now p }
         requires room { 0 < self.old.spare.edits }
@@ -279,7 +272,7 @@ impl Editor {
         self.delete(End::Place, p);
     }
 
-    /// Deletes a dummy with its arcs.
+    /// Deletes a dummy with its arcs. Takes time for these alone.
     pub fn drop_dummy(&mut self, t: u32)
         requires live { IsDummy self.old.now t }
         requires room { 0 < self.old.spare.edits }
@@ -303,12 +296,16 @@ impl Editor {
         ensures signals { self.new.signals ≡ self.old.signals }
     {
         let start = edit_start(&self.arena);
+        let removed = size_at(&self.arena, end, node);
         self.arena.remove(end, node);
         self.starts.push_reserved(start);
+        self.sizes.push_reserved(self.size);
+        self.size = self.size.minus(removed);
     }
 
     /// Contracts a dummy: it is removed with the places round it, and each pair of a place before
-    /// it and a place after it has a new place.
+    /// it and a place after it has a new place. Takes time for the arcs of the places that are
+    /// removed, and for those of both places of each pair.
     pub fn replace(&mut self, t: u32)
         requires live { IsDummy self.old.now t }
         requires room { 0 < self.old.spare.edits }
@@ -324,13 +321,18 @@ impl Editor {
         ensures signals { self.new.signals ≡ self.old.signals }
     {
         let start = edit_start(&self.arena);
+        let removed = size_round(&self.arena, t);
         add_pair_places(&mut self.arena, t);
         remove_round(&mut self.arena, t);
         self.arena.remove(End::Trans, t);
+        let made = size_from(&self.arena, start.places);
         self.starts.push_reserved(start);
+        self.sizes.push_reserved(self.size);
+        self.size = self.size.plus(made).minus(removed);
     }
 
-    /// Takes the last edit back: the draft before it is the draft again.
+    /// Takes the last edit back: the draft before it is the draft again. Takes time for the arcs
+    /// that the edit took off and added.
     pub fn undo(&mut self)
         requires { 0 < length self.old.past }
         ensures back { self.old.past ≡ self.new.past ++ self.new.now ∷ [] }
@@ -342,11 +344,13 @@ impl Editor {
         let start = self.starts.take_last();
         self.arena.revive_to(start.moment);
         self.arena.pop_to(start.cells);
+        self.size = self.sizes.take_last();
         self.undone = self.undone.saturating_add(1);
     }
 
     /// Makes the net of the draft: the known signals, where the own ones alone keep their kinds and
-    /// the others are inputs, and the live transitions and places. No dummy may be live.
+    /// the others are inputs, and the live transitions and places. No dummy may be live. Takes time
+    /// for each live place with each of the net's transitions.
     pub fn net(&self, own: &Nums) -> Result<Net, NoMemory>
         requires { (t : ℕ) → IsDummy self.now.now t → ⊥ }
         ensures value { IfOk result (λ n. IsNetOf self.now own.now n) }

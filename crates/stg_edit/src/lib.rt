@@ -8,6 +8,7 @@ mod editor;
 mod pair_places;
 mod round;
 mod signals;
+mod size;
 #[cfg(test)]
 mod tests;
 mod wear;

@@ -8,7 +8,7 @@ ghost use Rattle.stg_edit.specs.inner.RemovedPlaces.{weights_at, IsRemovedAtCell
 use stg_arena::{Arena, End, Way};
 
 /// Whether the cell has no weight in either direction.
-fn is_weightless(arena: &Arena, x: u32) -> bool
+pub fn is_weightless(arena: &Arena, x: u32) -> bool
     requires { x < length arena.now.cells }
     ensures { IsTrue result ↔ (weights_at arena.now x ≡ 0) }
 {

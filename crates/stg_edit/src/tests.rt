@@ -60,3 +60,24 @@ fn walks_round_a_transition(rt: HostRuntime) -> Result<(), Fail> {
     assert_eq!(rt; gives.next(), None);
     Ok(())
 }
+
+#[test]
+fn counts_through_deletions_and_undos(rt: HostRuntime) -> Result<(), Fail> {
+    let net = small_net(rt.alloc())?;
+    let known = Seq::new(rt.alloc());
+    let mut editor = Editor::of(rt.alloc(), &net, &known)?;
+    editor.reserve(2, 0, 0)?;
+    assert!(rt; editor.is_trans(0));
+    assert!(rt; editor.is_dummy(0));
+    assert_eq!(rt; (editor.places(), editor.arcs()), (1, 1));
+    editor.drop_dummy(0);
+    assert_eq!(rt; (editor.places(), editor.arcs()), (1, 0));
+    assert!(rt; editor.is_place(0));
+    editor.drop_place(0);
+    assert_eq!(rt; (editor.places(), editor.arcs()), (0, 0));
+    editor.undo();
+    assert_eq!(rt; (editor.places(), editor.arcs()), (1, 0));
+    editor.undo();
+    assert_eq!(rt; (editor.places(), editor.arcs()), (1, 1));
+    Ok(())
+}

@@ -200,6 +200,7 @@ fn sums_up_weights_and_takes_them_back(rt: HostRuntime) -> Result<(), Fail> {
     let mut editor = edited_weights(rt.alloc())?;
     assert!(rt; !editor.is_trans(2));
     assert_eq!(rt; editor.places(), 2);
+    assert_eq!(rt; editor.arcs(), 5);
     assert!(rt; editor.is_place(2));
     assert!(rt; editor.is_place(3));
     assert_eq!(rt; editor.tokens(3), 3);
@@ -216,6 +217,7 @@ fn sums_up_weights_and_takes_them_back(rt: HostRuntime) -> Result<(), Fail> {
     undo_all(&mut editor, 1);
     assert!(rt; editor.is_trans(2));
     assert_eq!(rt; editor.places(), 3);
+    assert_eq!(rt; editor.arcs(), 8);
     assert_eq!(rt; editor.next_place(), 3);
     Ok(())
 }
@@ -231,6 +233,7 @@ fn takes_seven_edits_back(rt: HostRuntime) -> Result<(), Fail> {
     assert_eq!(rt; part.tokens(), [0, 0, 0, 1].as_slice());
     undo_all(&mut editor, 7);
     assert_eq!(rt; editor.places(), 11);
+    assert_eq!(rt; editor.arcs(), 22);
     assert_eq!(rt; editor.next_place(), 11);
     for t in 0..10 {
         assert!(rt; editor.is_trans(t), "transition {t}");

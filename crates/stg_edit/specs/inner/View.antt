@@ -3,12 +3,14 @@ use Rattle.std.specs.Prelude.{◌≡◌, ◌≢◌, ◌≤◌, ◌<◌, ◌-◌,
 use Rattle.std.specs.List.{list_any}
 use Rattle.stg_net.specs.declared.signal.Signal.{Signal}
 use Rattle.stg_net.specs.declared.trans.TransName.{TransName}
+use Rattle.stg_net.specs.declared.limits.TheConstants.Limits.{PART}
 use Rattle.stg_net.specs.Net.{signal_at}
 use Rattle.stg_arena.specs.declared.end.End.TheVariants.{Trans}
 use Rattle.stg_arena.specs.ArenaView.{Layout, count_of, IsArena}
 use Rattle.stg_edit.specs.declared.editor.Editor.TheInside.{Inside}
 use Rattle.stg_edit.specs.Editing.{Editing, Spare, full_name_in}
 use Rattle.stg_edit.specs.inner.DraftAt.{Base, now_of, past_of, AreEditStarts}
+use Rattle.stg_edit.specs.inner.Sizes.{IsSized}
 
 -- what stays the same through all edits
 abbrev pub base_of : List Signal → List TransName → List ℕ → ℕ → Base
@@ -40,7 +42,7 @@ editing e = record {
   signals = e.signals;
 }
 
--- the names differ and are in range, and a flag for each signal tells whether it is known
+-- the names differ, are few and in range, and a flag for each signal tells whether it is known
 pub record IsNamed (signals : List Signal) (names : List TransName) (known : List ℕ)
     (is_known : List Bool) : Type 0 where
   pub in_range : All (λ (t : TransName). t.signal < length signals) names
@@ -50,6 +52,7 @@ pub record IsNamed (signals : List Signal) (names : List TransName) (known : Lis
   pub signals_fit : length signals < 2 ^ 32
   pub flagged : (s : ℕ) → slice_index_or is_known s false ≡ list_any (λ k. k == s) known
   pub flags_long : length is_known ≡ length signals
+  pub trans_few : length names ≤ PART.trans
 
 -- what is true of an editor's fields
 pub record IsEditor (e : Inside) : Type 0 where
@@ -58,6 +61,8 @@ pub record IsEditor (e : Inside) : Type 0 where
   pub room : e.edit_room ≤ vec_capacity e.starts
   pub removals_long : e.arena.rooms.places + count_of e.arena Trans ≤ e.arena.rooms.removals
   pub long : length e.starts.items ≤ e.edit_room
+  pub sizes_room : e.edit_room ≤ vec_capacity e.sizes
+  pub sized : IsSized (editing e) e.size e.sizes.items
   pub roomy : length e.arena.cells + (e.arena.rooms.places - length e.arena.places)
       ≤ e.arena.rooms.cells
   pub names_long : length e.names ≡ length e.arena.trans

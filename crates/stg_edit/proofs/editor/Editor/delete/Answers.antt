@@ -1,13 +1,16 @@
-use Rattle.std.proofs.Common.{◌≡◌, ◌+◌, ◌-◌, ◌++◌, ◌∷◌, [], length, subst, sym, ap, ◌∙◌, arith}
+use Rattle.std.proofs.Common.{◌≡◌, ◌-◌, ◌++◌, ◌∷◌, [], length, subst, sym, ap, ◌∙◌, arith}
 use Rattle.std.proofs.lemmas.List.{length-append}
 use Rattle.stg_arena.specs.declared.end.End.TheVariants.{Place, Trans}
 use Rattle.stg_edit.specs.Editing.{Editing, one_edit_less}
 use Rattle.stg_edit.specs.inner.Nodes.{IsNode, without_node}
 use Rattle.stg_edit.specs.declared.edit_start.EditStart.{EditStart}
-use Rattle.stg_edit.specs.inner.View.{base, spare_of}
-use Rattle.stg_edit.specs.inner.DraftAt.{past_of, draft_at}
-use Rattle.stg_arena.proofs.RemovalTimes.{removals_length, removals_short}
-use Rattle.stg_edit.proofs.DraftChanges.{node_lives, draft_without, spare_removed}
+use Rattle.stg_edit.specs.declared.size.Size.{Size}
+use Rattle.stg_edit.specs.inner.View.{base, spare_of, editing}
+use Rattle.stg_edit.specs.inner.DraftAt.{past_of, now_of}
+use Rattle.stg_edit.specs.inner.Sizes.{size_of, size_at, minus}
+use Rattle.stg_arena.proofs.RemovalTimes.{removals_short}
+use Rattle.stg_edit.proofs.DraftChanges.{node_lives, spare_removed}
+use Rattle.stg_edit.proofs.DraftSizes.{minus_plus, size_deleted, sized_more, now_without}
 use Rattle.stg_arena.proofs.Extends.{extended_removed}
 use Rattle.stg_edit.proofs.EditStarts.{starts_more, past_more, all_cells_removed}
 use Rattle.stg_edit.proofs.editor.Editor.delete.Goals as goal
@@ -28,6 +31,28 @@ remove-requires-clause-room c =
     let live = node_lives c.args.end (base c.self.inside) c.args.node c.self.inside.arena c.self.invariant.arena.timed (subst P (sym c.self.view_is) c.requires.live) in
     omega (arith, removals_short c.self.inside.arena c.args.end c.args.node c.self.invariant.arena.timed live.0 live.1, c.self.invariant.removals_long, c.self.invariant.arena.laid.places)
 
+pub size_at-removed-requires-clause-in_range : goal.size_at-removed-requires-clause-in_range
+size_at-removed-requires-clause-in_range c =
+    let P : Editing → Type 0 = λ v. IsNode c.args.end v.now c.args.node in
+    (node_lives c.args.end (base c.self.inside) c.args.node c.self.inside.arena c.self.invariant.arena.timed (subst P (sym c.self.view_is) c.requires.live)).0
+
+pub size_at-removed-requires-clause-live : goal.size_at-removed-requires-clause-live
+size_at-removed-requires-clause-live c =
+    let P : Editing → Type 0 = λ v. IsNode c.args.end v.now c.args.node in
+    (node_lives c.args.end (base c.self.inside) c.args.node c.self.inside.arena c.self.invariant.arena.timed (subst P (sym c.self.view_is) c.requires.live)).1
+
+pub minus-self-inside-requires-clause-places : goal.minus-self-inside-requires-clause-places
+minus-self-inside-requires-clause-places c =
+    let P : Editing → Type 0 = λ v. IsNode c.args.end v.now c.args.node in
+    let whole = size_deleted (base c.self.inside) c.self.inside.arena c.self.invariant.arena.timed c.args.end c.args.node (subst P (sym c.self.view_is) c.requires.live) in
+    omega (arith, ap (λ (s : Size). s.places) whole, ap (λ (s : Size). s.places) c.size_at-removed.ensures, ap (λ (s : Size). s.places) c.self.invariant.sized.now_sized)
+
+pub minus-self-inside-requires-clause-arcs : goal.minus-self-inside-requires-clause-arcs
+minus-self-inside-requires-clause-arcs c =
+    let P : Editing → Type 0 = λ v. IsNode c.args.end v.now c.args.node in
+    let whole = size_deleted (base c.self.inside) c.self.inside.arena c.self.invariant.arena.timed c.args.end c.args.node (subst P (sym c.self.view_is) c.requires.live) in
+    omega (arith, ap (λ (s : Size). s.arcs) whole, ap (λ (s : Size). s.arcs) c.size_at-removed.ensures, ap (λ (s : Size). s.arcs) c.self.invariant.sized.now_sized)
+
 pub invariant_of-self : goal.invariant_of-self
 invariant_of-self c =
     let l = c.self.inside.arena in
@@ -35,6 +60,18 @@ invariant_of-self c =
     let b = c.args.end in
     let g = c.remove.ensures.removed in
     let m : EditStart = c.edit_start-start.result in
+    let x = base c.self.inside in
+    let P : Editing → Type 0 = λ v. IsNode b v.now c.args.node in
+    let g' = without_node b (now_of x l) c.args.node in
+    let whole = size_deleted x l c.self.invariant.arena.timed b c.args.node (subst P (sym c.self.view_is) c.requires.live) in
+    let here =
+    c.minus-self-inside.ensures ∙ (λ i. minus (c.self.invariant.sized.now_sized i) (c.size_at-removed.ensures i))
+    ∙ minus_plus (size_of g') (size_at l b c.args.node) (size_of (now_of x l)) whole
+    ∙ ap size_of (sym (now_without b x c.args.node l l' g c.self.invariant.arena.timed)) in
+    let past =
+    ap (past_of x l') c.push_reserved.ensures.items
+    ∙ past_more l l' c.self.inside.starts.items m c.edit_start-start.ensures (extended_removed (length l.places) b c.args.node l l' c.self.invariant.arena.timed g) x c.self.invariant.are_starts in
+    let sized = sized_more (editing c.self.inside) c.self.inside.size c.minus-self-inside.result c.self.inside.sizes.items c.push_reserved-2.new.self.items (now_of x l') (past_of x l' c.push_reserved.new.self.items) c.self.invariant.sized past here c.push_reserved-2.ensures.items in
     record {
       arena = c.remove.ensures.arena;
       are_starts = rw c.push_reserved.ensures.items (starts_more l l' c.self.inside.starts.items m c.edit_start-start.ensures (extended_removed (length l.places) b c.args.node l l' c.self.invariant.arena.timed g) c.self.invariant.are_starts c.remove.ensures.arena.laid c.remove.ensures.arena.timed (all_cells_removed b c.args.node l l' g));
@@ -44,17 +81,14 @@ invariant_of-self c =
       roomy = omega (arith, c.self.invariant.roomy, ap length g.cells, g.as_many Place, ap (λ r. r.places) g.rooms, ap (λ r. r.cells) g.rooms);
       names_long = c.self.invariant.names_long ∙ sym (g.as_many Trans);
       named = c.self.invariant.named;
+      sizes_room = omega (arith, c.self.invariant.sizes_room, c.push_reserved-2.ensures.capacity);
+      sized = record { now_sized = sized.0; past_sized = sized.1 };
     }
 
 pub returns-clause-now : goal.returns-clause-now
 returns-clause-now c =
-    let l = c.self.inside.arena in
-    let l' = c.remove.new.self in
-    let x = base c.self.inside in
     let b = c.args.end in
-    ap (λ s. draft_at x l' s (length l'.places)) (removals_length b c.args.node l l' c.remove.ensures.removed)
-    ∙ ap (draft_at x l' (length l.removals + 1)) (c.remove.ensures.removed.as_many Place)
-    ∙ draft_without b x c.args.node l l' (length l.places) c.remove.ensures.removed c.self.invariant.arena.timed
+    now_without b (base c.self.inside) c.args.node c.self.inside.arena c.remove.new.self c.remove.ensures.removed c.self.invariant.arena.timed
     ∙ ap (λ v. without_node b v.now c.args.node) c.self.view_is
 
 pub returns-clause-past : goal.returns-clause-past

@@ -3,18 +3,24 @@ use Rattle.std.specs.List.{list_any}
 use Rattle.stg_net.specs.declared.signal.Signal.{Signal}
 use Rattle.stg_net.specs.declared.trans.TransName.{TransName}
 use Rattle.stg_edit.specs.declared.edit_start.EditStart.{EditStart}
-use Rattle.stg_edit.specs.inner.DraftAt.{AreEditStarts}
+use Rattle.stg_arena.specs.declared.end.End.TheVariants.{Place}
+use Rattle.stg_edit.specs.inner.DraftAt.{AreEditStarts, past_of}
+use Rattle.stg_edit.specs.inner.Sizes.{size_of}
 use Rattle.stg_edit.proofs.EditStarts.{starts_first}
 use Rattle.stg_net.specs.Net.{signal_at}
 use Rattle.stg_edit.specs.Editing.{full_name_in}
 use Rattle.stg_edit.specs.inner.View.{base_of}
 use Rattle.stg_edit.proofs.Filling.{initial_table}
+use Rattle.stg_edit.proofs.DraftSizes.{size_whole}
 use Rattle.stg_edit.proofs.editor.Editor.of.Goals as goal
 
 record Signals : Type 0 where
   signals : List Signal
   names : List TransName
   known : List ℕ
+
+pub size_from-size-requires-clause-live : goal.size_from-size-requires-clause-live
+size_from-size-requires-clause-live c = λ p low high. c.in_ok-arena.ensures.live Place p
 
 pub returns-clause-now : goal.returns-clause-now
 returns-clause-now c =
@@ -55,5 +61,11 @@ invariant_of-result c =
         signals_fit = rw signals net.signals_fit;
         flagged = λ s. c.in_ok-known_flags.ensures.flags s ∙ ap (list_any (λ k. k == s)) (c.as_slice-2.ensures ∙ sym known);
         flags_long = c.in_ok-known_flags.ensures.len ∙ ap length (c.signals-2.ensures.signals ∙ sym signals);
+        trans_few = omega (arith, ap length names, c.requires.within.trans);
+      };
+      sizes_room = omega arith;
+      sized = record {
+        now_sized = c.size_from-size.ensures ∙ size_whole (base_of c.in_ok-copy_signals.field-0 c.in_ok-from_slice.field-0 c.in_ok-from_slice-2.field-0 (length c.tokens.result.now)) l f.arena.timed (λ p low. f.live Place p);
+        past_sized = c.new-2.ensures.items ∙ ap (λ ms. map size_of (past_of (base_of c.in_ok-copy_signals.field-0 c.in_ok-from_slice.field-0 c.in_ok-from_slice-2.field-0 (length c.tokens.result.now)) l ms)) (sym c.new.ensures.items);
       };
     }

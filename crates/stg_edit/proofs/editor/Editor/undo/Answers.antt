@@ -1,9 +1,10 @@
 use Rattle.std.proofs.Common.{◌∷◌, [], length, sym, ap, ◌∙◌, arith, List, subst}
 use Rattle.std.proofs.lemmas.List.{length-append}
 use Rattle.stg_edit.specs.declared.edit_start.EditStart.{EditStart}
-use Rattle.stg_edit.specs.inner.View.{base}
-use Rattle.stg_edit.specs.inner.DraftAt.{AreEditStarts}
+use Rattle.stg_edit.specs.inner.View.{base, editing}
+use Rattle.stg_edit.specs.inner.DraftAt.{AreEditStarts, now_of, past_of}
 use Rattle.stg_edit.proofs.EditStarts.{last_start, is_undone}
+use Rattle.stg_edit.proofs.DraftSizes.{sized_less}
 use Rattle.stg_edit.proofs.editor.Editor.undo.Goals as goal
 
 pub revive_to-requires-clause-in_range : goal.revive_to-requires-clause-in_range
@@ -28,6 +29,10 @@ pop_to-requires c =
 pub invariant_of-self : goal.invariant_of-self
 invariant_of-self c =
     let u = is_undone (base c.self.inside) c.self.inside.arena c.revive_to.new.self c.pop_to.new.self c.self.inside.starts.items c.take_last-start.new.self.items c.take_last-start.result c.take_last-start.ensures.items c.self.invariant.are_starts c.self.invariant.arena.timed c.self.invariant.arena.laid c.revive_to.ensures.back c.revive_to.ensures.moment c.revive_to.ensures.arena.timed c.pop_to.ensures.popped c.pop_to.ensures.cells c.pop_to.ensures.arena.laid in
+    let x = base c.self.inside in
+    let l' = c.pop_to.new.self in
+    let starts = c.take_last-start.new.self.items in
+    let sized = sized_less (editing c.self.inside) c.self.inside.size c.take_last-self-inside.result c.self.inside.sizes.items c.take_last-self-inside.new.self.items (now_of x l') (past_of x l' starts) c.self.invariant.sized u.past c.take_last-self-inside.ensures.items in
     record {
       arena = c.pop_to.ensures.arena;
       are_starts = u.are_starts;
@@ -37,6 +42,8 @@ invariant_of-self c =
       roomy = omega (arith, c.self.invariant.roomy, ap (λ r. r.places) u.later.rooms, ap (λ r. r.cells) u.later.rooms, u.later.places, u.slim, c.self.invariant.arena.laid.places);
       names_long = c.self.invariant.names_long ∙ u.later.trans;
       named = c.self.invariant.named;
+      sizes_room = omega (arith, c.self.invariant.sizes_room, c.take_last-self-inside.ensures.capacity);
+      sized = record { now_sized = sized.1; past_sized = sized.0 };
     }
 
 pub returns-clause-back : goal.returns-clause-back
