@@ -1,6 +1,6 @@
 -- How a run ends whose text is accepted.
-use Rattle.std.proofs.Common.{◌≡◌, ◌++◌, ◌<◌, ℕ, List, [], Option, None, Some, IsSome, IfSome, inr, ap, ◌∙◌, append-nil, subst, length, arith}
-use Rattle.std.specs.Option.{option_map}
+use Rattle.std.proofs.Common.{◌≡◌, ◌++◌, ◌<◌, ℕ, List, Option, None, Some, IsSome, inr, ap, ◌∙◌, append-nil, subst, length, arith}
+use Rattle.std.specs.Io.KnownBytes.{IsAtEnd, prepend_known}
 use Rattle.std.proofs.lemmas.Bool.{false≢true}
 use Rattle.desij.specs.Outside.{SeenSource, named}
 use Rattle.desij.specs.Reading.{ReadsUpTo, ReadsWhole, most_read}
@@ -24,7 +24,7 @@ accepted_ends name parts Refused old new accepted ends = absurd ends
 accepted_ends name parts ReadFault old new accepted ends = absurd ends
 accepted_ends name parts ServeFault old new accepted ends = absurd ends
 
-whole : (text : List ℕ) (found left : Option (List ℕ)) → found ≡ option_map (λ (bs : List ℕ). text ++ bs) left → IsSome left → IfSome left (λ bs. bs ≡ []) → found ≡ Some text
+whole : (text : List ℕ) (found left : Option (List ℕ)) → found ≡ prepend_known text left → IsSome left → IsAtEnd left → found ≡ Some text
 whole text found None e some none = absurd (false≢true some)
 whole text found (Some rest) e some none = e ∙ ap (λ (bs : List ℕ). Some (text ++ bs)) none ∙ ap Some (append-nil text)
 

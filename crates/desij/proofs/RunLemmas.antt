@@ -1,6 +1,7 @@
 -- What the end of a run tells of its status.
-use Rattle.std.proofs.Common.{◌≡◌, ℕ, ◌≤◌, ◌<◌, ◌⊎◌, List, [], ◌++◌, Option, None, Some, IsSome, IsSomeAnd, IfSome, inl, inr, refl, sym, ap, ◌∙◌, subst, length, length-append, arith, append-nil}
+use Rattle.std.proofs.Common.{◌≡◌, ℕ, ◌≤◌, ◌<◌, ◌⊎◌, List, [], ◌++◌, Option, None, Some, IsSome, IsSomeAnd, inl, inr, refl, sym, ap, ◌∙◌, subst, length, length-append, arith, append-nil}
 use Rattle.std.specs.Option.{option_map}
+use Rattle.std.specs.Io.KnownBytes.{IsAtEnd, prepend_known}
 use Rattle.std.proofs.lemmas.Bool.{false≢true}
 use Rattle.std.proofs.lemmas.List.{length-map}
 use Rattle.stg_net.specs.declared.limits.TheConstants.Limits.{SPEC}
@@ -9,8 +10,8 @@ use Rattle.stg_decomp.specs.Parts.{nets_of}
 use Rattle.desij.specs.Answering.{IsAcceptable, IsRefusable}
 use Rattle.desij.specs.Files.{HasParts, with_nets}
 use Rattle.desij.specs.inner.Ends.{Ends}
-use Rattle.desij.specs.Outside.{Files, SeenSource, named}
-use Rattle.desij.specs.Reading.{ReadsUpTo, ReadsWhole, IsMissing, most_read}
+use Rattle.desij.specs.Outside.{Files, SeenSource, IsMissing, named}
+use Rattle.desij.specs.Reading.{ReadsUpTo, ReadsWhole, most_read}
 use Rattle.desij.specs.Run.{Seen, NoneRose, IsRefused, IsAccepted, TellsAccepted, TellsRefused, WritesParts, WritesComponents}
 use Rattle.desij.specs.declared.status.Status.{Status}
 use Rattle.desij.specs.declared.status.Status.TheVariants.{Done, BadWords, Refused, ReadFault, WriteFault, PrintFault, NoMemory, ServeFault}
@@ -22,8 +23,8 @@ told_by_name None name text e = cc
 told_by_name (Some m) name text e = refl
 
 -- the prefix of an accepted text that is as long as may be read is the whole of it
-prefix_is_whole : (whole text : List ℕ) (left : Option (List ℕ)) → Some whole ≡ option_map (λ (bs : List ℕ). text ++ bs) left
-    → (length text < most_read → IfSome left (λ bs. bs ≡ [])) → length whole ≤ SPEC.bytes → whole ≡ text
+prefix_is_whole : (whole text : List ℕ) (left : Option (List ℕ)) → Some whole ≡ prepend_known text left
+    → (length text < most_read → IsAtEnd left) → length whole ≤ SPEC.bytes → whole ≡ text
 prefix_is_whole whole text None e rest short = cc
 prefix_is_whole whole text (Some left) e rest short =
     let same : whole ≡ text ++ left = cc in
@@ -102,7 +103,7 @@ done_means form ServeFault old new ends is = cc
 read_there : (most : ℕ) (name text : List ℕ) (old new : SeenSource) → ReadsUpTo most name text old new → IsMissing name old → ⊥
 read_there most name text old new read missing = go new.left (read.some_left missing.told) (sym missing.unnamed ∙ read.told missing.told)
   where
-    go : (left : Option (List ℕ)) → IsSome left → None ≡ option_map (λ (bs : List ℕ). text ++ bs) left → ⊥
+    go : (left : Option (List ℕ)) → IsSome left → None ≡ prepend_known text left → ⊥
     go None some e = false≢true some
     go (Some rest) some e = cc
 

@@ -1,11 +1,11 @@
 -- The files of an answer.
 use Rattle.std.specs.Prelude.{◌≡◌, ℕ, ◌+◌, zero, suc, List, ◌++◌, Option, slice_index_or, codes, decimal}
 use Rattle.std.specs.Option.{option_map}
-use Rattle.std.specs.FinMap.{insert, remove}
+use Rattle.std.specs.FinMap.{insert}
 use Rattle.stg_net.specs.Net.{NetLists}
 use Rattle.astg_write.specs.ComponentText.{component_text}
 use Rattle.stg_decomp.specs.Parts.{no_part, nets_of}
-use Rattle.desij.specs.Outside.{Files}
+use Rattle.desij.specs.Outside.{Files, without_file}
 use Rattle.stg_decomp.specs.declared.part.Part.{Part}
 
 -- the name of the k-th part's file, whose number is counted from 1
@@ -25,10 +25,15 @@ abbrev pub with_nets : List NetLists → ℕ → Files → Files
 with_nets nets zero m = m
 with_nets nets (suc k) m = insert (with_nets nets k m) (part_name k) (net_bytes nets k)
 
+-- the files, where told, with those of the first k parts set
+abbrev pub with_parts : List Part → ℕ → Option Files → Option Files
+with_parts parts k files = option_map (with_nets (nets_of parts) k) files
+
 -- these files are the old ones with those of the first k parts set
 abbrev pub HasParts : List Part → ℕ → Option Files → Option Files → Type 0
-HasParts parts k old new = new ≡ option_map (with_nets (nets_of parts) k) old
+HasParts parts k old new = new ≡ with_parts parts k old
 
 -- The files of the first k parts are set. Nothing is told of the next one, and all others are as they were.
 abbrev pub FailsAt : List Part → ℕ → Option Files → Option Files → Type 0
-FailsAt parts k old new = option_map (λ (m : Files). remove m (part_name k)) new ≡ option_map (λ (m : Files). remove (with_nets (nets_of parts) k m) (part_name k)) old
+FailsAt parts k old new =
+    without_file new (part_name k) ≡ without_file (with_parts parts k old) (part_name k)

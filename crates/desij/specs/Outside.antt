@@ -1,11 +1,9 @@
 -- The outside as contracts see it: contents where a form tells them, and counts of the calls that failed.
-use Rattle.std.specs.Prelude.{◌≡◌, ℕ, ◌+◌, ◌-◌, ◌^◌, ◌≤◌, ◌<◌, min, Bool, true, false, List, [], ◌++◌, length, take, Option, None, IsSome, IfSome, Result, Ok, Err, OnErr, IsErrOf, is_some}
+use Rattle.std.specs.Prelude.{◌≡◌, ℕ, ◌+◌, ◌-◌, ◌^◌, ◌≤◌, min, List, Option, None, IsSome, Result, OnErr, IsErrOf}
 use Rattle.std.specs.Option.{option_map, option_and_then}
 use Rattle.std.specs.Ordering.{nat_cmp}
 use Rattle.std.specs.Cmp.Lexicographic.{slice_cmp}
 use Rattle.std.specs.FinMap.{FinMap, get, insert, remove}
-use Rattle.std.specs.Io.KnownBytes.{append_known}
-use Rattle.desij.specs.declared.outside.Failed.{Failed}
 use Rattle.desij.specs.declared.outside.PutError.{PutError}
 use Rattle.desij.specs.declared.outside.PutError.TheVariants as put_error
 
@@ -52,24 +50,15 @@ pub record HasPutCause {T : Type 0} (before now : ℕ) (result : Result T PutErr
 abbrev pub named : Option Files → List ℕ → Option (List ℕ)
 named files name = option_and_then (λ (m : Files). get m name) files
 
--- With true the text of that name is left. False comes only where the texts are told and none has the name. After a failure nothing is told of what is left.
-abbrev pub Selects : List ℕ → Result Bool Failed → SeenSource → SeenSource → Type 0
-Selects name (Ok true) old new = (new.left ≡ named old.texts name) × (IsSome old.texts → IsSome new.left)
-Selects name (Ok false) old new = IsSome old.texts × (named old.texts name ≡ None) × (new.left ≡ old.left)
-Selects name (Err e) old new = is_some new.left ≡ is_some old.left
+-- the texts are told, and none has that name
+pub record IsMissing (name : List ℕ) (seen : SeenSource) : Type 0 where
+  pub told : IsSome seen.texts
+  pub unnamed : named seen.texts name ≡ None
 
--- A read takes its bytes off the front of what is left, and none only at the end. After a failure nothing is told of what is left.
-abbrev pub Reads : Result ℕ Failed → List ℕ → Option (List ℕ) → Option (List ℕ) → Type 0
-Reads (Ok n) buf old new = (old ≡ option_map (λ (bs : List ℕ). take n buf ++ bs) new) × (n ≤ length buf) × (n ≡ 0 → IfSome new (λ bs. bs ≡ []))
-Reads (Err e) buf old new = is_some new ≡ is_some old
+-- the files, where told, with these bytes under that name
+abbrev pub with_file : Option Files → List ℕ → List ℕ → Option Files
+with_file files name bytes = option_map (λ (m : Files). insert m name bytes) files
 
--- A put sets that name alone. A failed one leaves all other names, and want of memory changes nothing.
-abbrev pub Puts : List ℕ → List ℕ → Result (Unit {0}) PutError → Option Files → Option Files → Type 0
-Puts name bytes (Ok done) old new = new ≡ option_map (λ (m : Files). insert m name bytes) old
-Puts name bytes (Err put_error.Failed) old new = option_map (λ (m : Files). remove m name) new ≡ option_map (λ (m : Files). remove m name) old
-Puts name bytes (Err put_error.NoMemory) old new = new ≡ old
-
--- A write appends the first n bytes of the piece, at least one. A failed one leaves the bytes.
-abbrev pub Writes : List ℕ → Result ℕ Failed → Option (List ℕ) → Option (List ℕ) → Type 0
-Writes piece (Ok n) old new = (0 < n) × (n ≤ length piece) × (new ≡ append_known old (take n piece))
-Writes piece (Err e) old new = new ≡ old
+-- the files, where told, without that name
+abbrev pub without_file : Option Files → List ℕ → Option Files
+without_file files name = option_map (λ (m : Files). remove m name) files

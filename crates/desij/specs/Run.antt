@@ -10,9 +10,9 @@ use Rattle.stg_laws.specs.Faithful.{AreComponents}
 use Rattle.astg_write.specs.ReadsBack.{AreReadBack}
 use Rattle.desij.specs.Answering.{HasAnswer, IsRefusedBy, IsRefusable, IsAcceptable}
 use Rattle.desij.specs.Files.{FailsAt, HasParts, with_nets}
-use Rattle.desij.specs.Outside.{SeenSource, SeenShelf, SeenSink, Rose, named}
+use Rattle.desij.specs.Outside.{SeenSource, SeenShelf, SeenSink, IsMissing, Rose, named}
 use Rattle.desij.specs.Printing.{IsPrefixPrinted, printed}
-use Rattle.desij.specs.Reading.{IsMissing, ReadsUpTo, ReadsWhole, most_read}
+use Rattle.desij.specs.Reading.{ReadsUpTo, ReadsWhole, most_read}
 use Rattle.desij.specs.Words.{usage}
 use Rattle.stg_decomp.specs.declared.part.Part.{Part}
 

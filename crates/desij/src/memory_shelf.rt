@@ -1,7 +1,7 @@
 //! A shelf in memory.
 
 ghost use Rattle.std.specs.Prelude.{◌≡◌, ◌↔◌, OnOk, IsErrOf};
-ghost use Rattle.desij.specs.Outside.{HasPutCause, Puts};
+ghost use Rattle.desij.specs.Outside.{HasPutCause, with_file};
 ghost use Rattle.desij.specs.Calls.{FailsNext, after_call, after_fault};
 ghost use Rattle.desij.specs.Entries.{put_entry};
 ghost use Rattle.desij.specs.Memory.{fresh_shelf, seen_shelf};
@@ -54,11 +54,19 @@ impl Shelf for MemShelf {
 
     #[tactic(auto, using(crate::proofs::EntryLemmas::put_is_insert))]
     fn put(&mut self, name: &str, bytes: &[u8]) -> Result<(), PutError>
-        ensures ok { OnOk result (self.new ≡ record self.old { files = put_entry name.now bytes.now self.old.files; calls = after_call self.old.calls }) }
+        ensures ok { OnOk result (self.new ≡ record self.old {
+          files = put_entry name.now bytes.now self.old.files;
+          calls = after_call self.old.calls;
+        }) }
+        ensures files { OnOk result
+            ((seen_shelf self.new).files ≡ with_file (seen_shelf self.old).files name.now bytes.now) }
         ensures failed { IsErrOf result PutError.Failed ↔ FailsNext self.old.calls }
-        ensures fault { IsErrOf result PutError.Failed → self.new ≡ record self.old { calls = after_fault self.old.calls } }
-        ensures no_memory { IsErrOf result PutError.NoMemory → self.new ≡ record self.old { calls = after_call self.old.calls } }
-        ensures files { Puts name.now bytes.now result (seen_shelf self.old).files (seen_shelf self.new).files }
+        ensures fault { IsErrOf result PutError.Failed → self.new ≡ record self.old {
+          calls = after_fault self.old.calls;
+        } }
+        ensures no_memory { IsErrOf result PutError.NoMemory → self.new ≡ record self.old {
+          calls = after_call self.old.calls;
+        } }
         ensures cause { HasPutCause (seen_shelf self.old).faults (seen_shelf self.new).faults result }
     {
         if self.calls.begin().is_err() {

@@ -1,7 +1,7 @@
 //! A sink in memory.
 
-ghost use Rattle.std.specs.Prelude.{◌≡◌, ◌-◌, ◌<◌, ◌++◌, ◌⊎◌, ◌↔◌, length, take, min, IfOk, OnErr, IsErr};
-ghost use Rattle.desij.specs.Outside.{HasCause, Writes};
+ghost use Rattle.std.specs.Prelude.{◌≡◌, ◌-◌, ◌<◌, ◌≤◌, ◌++◌, ◌⊎◌, ◌↔◌, length, take, min, IfOk, OnErr, IsErr};
+ghost use Rattle.desij.specs.Outside.{HasCause};
 ghost use Rattle.desij.specs.Calls.{FailsNext, after_call, after_fault};
 ghost use Rattle.desij.specs.Memory.{fresh_sink, seen_sink};
 
@@ -55,11 +55,18 @@ impl Sink for MemSink {
 
     fn write(&mut self, bytes: &[u8]) -> Result<usize, Failed>
         requires { 0 < length bytes.now }
-        ensures count { IfOk result (λ n. n ≡ min (self.old.room - length self.old.bytes) (length bytes.now)) }
-        ensures ok { IfOk result (λ n. self.new ≡ record self.old { bytes = self.old.bytes ++ take n bytes.now; calls = after_call self.old.calls }) }
-        ensures failed { IsErr result ↔ (FailsNext self.old.calls ⊎ (length self.old.bytes ≡ self.old.room)) }
-        ensures err { OnErr result (self.new ≡ record self.old { calls = after_fault self.old.calls }) }
-        ensures written { Writes bytes.now result (seen_sink self.old).written (seen_sink self.new).written }
+        ensures count { IfOk result (λ n.
+            n ≡ min (self.old.room - length self.old.bytes) (length bytes.now)) }
+        ensures ok { IfOk result (λ n. self.new ≡ record self.old {
+          bytes = self.old.bytes ++ take n bytes.now;
+          calls = after_call self.old.calls;
+        }) }
+        ensures within { IfOk result (λ n. (0 < n) × (n ≤ length bytes.now)) }
+        ensures failed { IsErr result
+            ↔ (FailsNext self.old.calls ⊎ (length self.old.bytes ≡ self.old.room)) }
+        ensures err { OnErr result (self.new ≡ record self.old {
+          calls = after_fault self.old.calls;
+        }) }
         ensures cause { HasCause (seen_sink self.old).faults (seen_sink self.new).faults result }
     {
         self.calls.begin()?;

@@ -1,7 +1,7 @@
 //! A source in memory.
 
-ghost use Rattle.std.specs.Prelude.{◌≡◌, ◌≢◌, ◌+◌, ◌<◌, ◌≤◌, ◌↔◌, length, take, drop, min, AllPairs, IfOk, OnOk, OnErr, IsErr, is_some};
-ghost use Rattle.desij.specs.Outside.{HasCause, Reads, Selects};
+ghost use Rattle.std.specs.Prelude.{◌≡◌, ◌≢◌, ◌+◌, ◌<◌, ◌≤◌, ◌↔◌, ◌++◌, length, take, drop, min, [], true, false, AllPairs, IfOk, OnOk, OnErr, IsErr, is_some};
+ghost use Rattle.desij.specs.Outside.{HasCause, IsMissing, named};
 ghost use Rattle.desij.specs.Calls.{FailsNext, after_call, after_fault};
 ghost use Rattle.desij.specs.Entries.{NamedBytes, bytes_at, bytes_of};
 ghost use Rattle.desij.specs.Memory.{fresh_source, seen_source};
@@ -60,14 +60,22 @@ impl Source for MemSource {
     #[tactic(auto, using(crate::proofs::EntryLemmas::named_is))]
     fn select(&mut self, name: &str) -> Result<bool, Failed>
         requires { self.old.selects < 8 }
-        ensures ok { OnOk result (self.new ≡ record self.old { left = self.new.left; selects = self.old.selects + 1; calls = after_call self.old.calls }) }
-        ensures found { IfOk result (λ b. b ≡ is_some (bytes_of name.now self.old.texts)) }
+        ensures ok { OnOk result (self.new ≡ record self.old {
+          left = self.new.left;
+          selects = self.old.selects + 1;
+          calls = after_call self.old.calls;
+        }) }
+        ensures value { IfOk result (λ b. b ≡ is_some (bytes_of name.now self.old.texts)) }
+        ensures found { result ≡ Ok true
+            → Some self.new.left ≡ named (seen_source self.old).texts name.now }
+        ensures missing { result ≡ Ok false → IsMissing name.now (seen_source self.old) }
+        ensures same_left { result ≡ Ok false → self.new.left ≡ self.old.left }
         ensures failed { IsErr result ↔ FailsNext self.old.calls }
-        ensures err { OnErr result (self.new ≡ record self.old { selects = self.old.selects + 1; calls = after_fault self.old.calls }) }
-        ensures left { Selects name.now result (seen_source self.old) (seen_source self.new) }
-        ensures selects { self.new.selects ≡ self.old.selects + 1 }
+        ensures err { OnErr result (self.new ≡ record self.old {
+          selects = self.old.selects + 1;
+          calls = after_fault self.old.calls;
+        }) }
         ensures cause { HasCause (seen_source self.old).faults (seen_source self.new).faults result }
-        ensures kept { self.new.texts ≡ self.old.texts }
     {
         self.selects += 1;
         self.calls.begin()?;
@@ -83,11 +91,19 @@ impl Source for MemSource {
 
     fn read(&mut self, buf: &mut [u8]) -> Result<usize, Failed>
         requires { 0 < length buf.old }
-        ensures count { IfOk result (λ n. n ≡ min (min (length self.old.left) (length buf.old)) self.old.piece) }
-        ensures ok { IfOk result (λ n. self.new ≡ record self.old { left = drop n self.old.left; calls = after_call self.old.calls }) }
+        ensures count { IfOk result (λ n.
+            n ≡ min (min (length self.old.left) (length buf.old)) self.old.piece) }
+        ensures ok { IfOk result (λ n. self.new ≡ record self.old {
+          left = drop n self.old.left;
+          calls = after_call self.old.calls;
+        }) }
+        ensures bytes { IfOk result (λ n. self.old.left ≡ take n buf.new ++ self.new.left) }
+        ensures within { IfOk result (λ n. n ≤ length buf.new) }
+        ensures end { IfOk result (λ n. n ≡ 0 → self.new.left ≡ []) }
         ensures failed { IsErr result ↔ FailsNext self.old.calls }
-        ensures err { OnErr result (self.new ≡ record self.old { calls = after_fault self.old.calls }) }
-        ensures left { Reads result buf.new (seen_source self.old).left (seen_source self.new).left }
+        ensures err { OnErr result (self.new ≡ record self.old {
+          calls = after_fault self.old.calls;
+        }) }
         ensures cause { HasCause (seen_source self.old).faults (seen_source self.new).faults result }
     {
         self.calls.begin()?;

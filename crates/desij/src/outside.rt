@@ -1,7 +1,8 @@
 //! The outside as traits: texts that are read, files that are put, bytes that are written.
 
-ghost use Rattle.std.specs.Prelude.{◌≡◌, ◌+◌, ◌<◌, length, Ok, false};
-ghost use Rattle.desij.specs.Outside.{SeenSource, SeenShelf, SeenSink, HasCause, HasPutCause, Selects, Reads, Puts, Writes};
+ghost use Rattle.std.specs.Prelude.{◌≡◌, ◌+◌, ◌<◌, ◌≤◌, length, take, true, false, IsSome, IfOk, OnOk, OnErr, IsErrOf, is_some};
+ghost use Rattle.std.specs.Io.KnownBytes.{IsAtEnd, append_known, prepend_known};
+ghost use Rattle.desij.specs.Outside.{SeenSource, SeenShelf, SeenSink, HasCause, HasPutCause, IsMissing, named, with_file, without_file};
 
 use stg_net::NoMemory;
 
@@ -35,16 +36,36 @@ pub trait Source {
     /// Selects the text of that name, all of which is then left. At most eight calls may come.
     fn select(&mut self, name: &str) -> Result<bool, Failed>
         requires { (seen self.old).selects < 8 }
-        ensures left { Selects name.now result (seen self.old) (seen self.new) }
-        ensures selects { (seen self.new).selects ≡ (seen self.old).selects + 1 }
+
+        // With true the text of that name is left, and a form that tells its texts tells it.
+        ensures found { result ≡ Ok true
+            → (seen self.new).left ≡ named (seen self.old).texts name.now }
+        ensures there { result ≡ Ok true
+            → IsSome (seen self.old).texts → IsSome (seen self.new).left }
+
+        // With false the texts are told and none has that name. All else stays.
+        ensures missing { result ≡ Ok false → IsMissing name.now (seen self.old) }
+        ensures same_left { result ≡ Ok false → (seen self.new).left ≡ (seen self.old).left }
+        ensures no_fault { result ≡ Ok false → (seen self.new).faults ≡ (seen self.old).faults }
+
+        // After a failure what is left isn't said, but that it is told where it was told before.
+        ensures failed { OnErr result
+            (is_some (seen self.new).left ≡ is_some (seen self.old).left) }
         ensures cause { HasCause (seen self.old).faults (seen self.new).faults result }
-        ensures missing { result ≡ Ok false → (seen self.new).faults ≡ (seen self.old).faults }
+        ensures selects { (seen self.new).selects ≡ (seen self.old).selects + 1 }
         ensures kept { (seen self.new).texts ≡ (seen self.old).texts };
 
     /// Reads the next bytes of what is left, none only at its end.
     fn read(&mut self, buf: &mut [u8]) -> Result<usize, Failed>
         requires { 0 < length buf.old }
-        ensures left { Reads result buf.new (seen self.old).left (seen self.new).left }
+        ensures bytes { IfOk result (λ n.
+            (seen self.old).left ≡ prepend_known (take n buf.new) (seen self.new).left) }
+        ensures within { IfOk result (λ n. n ≤ length buf.new) }
+        ensures end { IfOk result (λ n. n ≡ 0 → IsAtEnd (seen self.new).left) }
+
+        // After a failure what is left isn't said, but that it is told where it was told before.
+        ensures failed { OnErr result
+            (is_some (seen self.new).left ≡ is_some (seen self.old).left) }
         ensures cause { HasCause (seen self.old).faults (seen self.new).faults result }
         ensures selects { (seen self.new).selects ≡ (seen self.old).selects }
         ensures kept { (seen self.new).texts ≡ (seen self.old).texts };
@@ -56,7 +77,15 @@ pub trait Shelf {
 
     /// Sets the bytes of that name.
     fn put(&mut self, name: &str, bytes: &[u8]) -> Result<(), PutError>
-        ensures files { Puts name.now bytes.now result (seen self.old).files (seen self.new).files }
+        ensures ok { OnOk result
+            ((seen self.new).files ≡ with_file (seen self.old).files name.now bytes.now) }
+
+        // After a failure nothing is said of that name, and all others are as before.
+        ensures failed { IsErrOf result PutError.Failed
+            → without_file (seen self.new).files name.now
+            ≡ without_file (seen self.old).files name.now }
+        ensures no_memory { IsErrOf result PutError.NoMemory
+            → (seen self.new).files ≡ (seen self.old).files }
         ensures cause { HasPutCause (seen self.old).faults (seen self.new).faults result };
 }
 
@@ -67,6 +96,9 @@ pub trait Sink {
     /// Appends the first bytes of a piece, at least one, and tells how many.
     fn write(&mut self, bytes: &[u8]) -> Result<usize, Failed>
         requires { 0 < length bytes.now }
-        ensures written { Writes bytes.now result (seen self.old).written (seen self.new).written }
+        ensures taken { IfOk result (λ n.
+            (seen self.new).written ≡ append_known (seen self.old).written (take n bytes.now)) }
+        ensures within { IfOk result (λ n. (0 < n) × (n ≤ length bytes.now)) }
+        ensures failed { OnErr result ((seen self.new).written ≡ (seen self.old).written) }
         ensures cause { HasCause (seen self.old).faults (seen self.new).faults result };
 }

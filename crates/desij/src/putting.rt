@@ -1,13 +1,13 @@
 //! The files of an answer, put on a shelf.
 
-ghost use Rattle.std.specs.Prelude.{◌≡◌, ◌<◌, ◌≤◌, All, IfOk, length};
+ghost use Rattle.std.specs.Prelude.{◌≡◌, ℕ, ◌<◌, ◌≤◌, All, IfOk, OnOk, IsErrOf, length};
 ghost use Rattle.std.specs.String.{string_bytes};
 ghost use Rattle.astg_write.specs.Writable.{IsWritable};
 ghost use Rattle.stg_decomp.specs.Parts.{nets_of};
 ghost use Rattle.stg_decomp.specs.declared.part.Part.{Part};
-ghost use Rattle.desij.specs.inner.Ends.{PutsParts};
 ghost use Rattle.desij.specs.Files.{net_bytes, part_name};
-ghost use Rattle.desij.specs.Outside.{HasPutCause, Puts};
+ghost use Rattle.desij.specs.Outside.{HasPutCause, with_file, without_file};
+ghost use Rattle.desij.specs.Run.{PutsAll, PutsFirst, PutsUpTo};
 
 use crate::outside::{PutError, Shelf};
 use std::alloc::{AllocError, Global};
@@ -17,7 +17,11 @@ use stg_decomp::{Answer, part_text};
 pub fn put_parts<F: Shelf>(alloc: Global, answer: &Answer, shelf: &mut F) -> Result<(), PutError>
     requires few { length answer.now.parts ≤ 250 }
     requires fit { All (λ (p : Part). IsWritable p.net) answer.now.parts }
-    ensures files { PutsParts answer.now.parts result (F.seen shelf.old).files (F.seen shelf.new).files }
+    ensures ok { OnOk result (PutsAll answer.now.parts (F.seen shelf.old) (F.seen shelf.new)) }
+    ensures failed { IsErrOf result PutError.Failed
+        → (k : ℕ) × PutsUpTo k answer.now.parts (F.seen shelf.old) (F.seen shelf.new) }
+    ensures no_memory { IsErrOf result PutError.NoMemory
+        → (k : ℕ) × PutsFirst k answer.now.parts (F.seen shelf.old) (F.seen shelf.new) }
     ensures cause { HasPutCause (F.seen shelf.old).faults (F.seen shelf.new).faults result }
 {
     for k in 0..answer.parts.len() as u32 {
@@ -31,7 +35,13 @@ fn put_part<F: Shelf>(alloc: Global, answer: &Answer, k: u32, shelf: &mut F) -> 
     requires there { k < length answer.now.parts }
     requires number { k ≤ 249 }
     requires fit { All (λ (p : Part). IsWritable p.net) answer.now.parts }
-    ensures files { Puts (part_name k) (net_bytes (nets_of answer.now.parts) k) result (F.seen shelf.old).files (F.seen shelf.new).files }
+    ensures ok { OnOk result ((F.seen shelf.new).files
+        ≡ with_file (F.seen shelf.old).files (part_name k) (net_bytes (nets_of answer.now.parts) k)) }
+    ensures failed { IsErrOf result PutError.Failed
+        → without_file (F.seen shelf.new).files (part_name k)
+        ≡ without_file (F.seen shelf.old).files (part_name k) }
+    ensures no_memory { IsErrOf result PutError.NoMemory
+        → (F.seen shelf.new).files ≡ (F.seen shelf.old).files }
     ensures cause { HasPutCause (F.seen shelf.old).faults (F.seen shelf.new).faults result }
 {
     let text = part_text(alloc, answer, k)?;

@@ -1,7 +1,7 @@
 //! A text of a source, selected and read.
 
-ghost use Rattle.std.specs.Prelude.{◌≡◌, ℕ, ◌+◌, ◌<◌, ◌≤◌, ◌++◌, List, [], length, IfOk, IfSome, IsErrOf};
-ghost use Rattle.std.specs.Option.{option_map};
+ghost use Rattle.std.specs.Prelude.{◌≡◌, ◌+◌, ◌<◌, ◌≤◌, length, IfOk, IsErrOf};
+ghost use Rattle.std.specs.Io.KnownBytes.{IsAtEnd, prepend_known};
 ghost use Rattle.desij.specs.Outside.{Rose};
 ghost use Rattle.desij.specs.inner.Ends.{HasTextCause};
 ghost use Rattle.desij.specs.Reading.{ReadsUpTo};
@@ -62,9 +62,10 @@ pub fn read_text<S: Source>(alloc: Global, source: &mut S, name: &str) -> Result
 
 // Reads what is left of the selected text, up to its end or to `MOST` bytes.
 fn read_rest<S: Source>(alloc: Global, source: &mut S) -> Result<Text, TextError>
-    ensures told { IfOk result (λ text. (S.seen source.old).left ≡ option_map (λ (bs : List ℕ). text ++ bs) (S.seen source.new).left) }
+    ensures told { IfOk result (λ text.
+        (S.seen source.old).left ≡ prepend_known text (S.seen source.new).left) }
     ensures at_most { IfOk result (λ text. length text ≤ MOST) }
-    ensures whole { IfOk result (λ text. length text < MOST → IfSome (S.seen source.new).left (λ bs. bs ≡ [])) }
+    ensures whole { IfOk result (λ text. length text < MOST → IsAtEnd (S.seen source.new).left) }
     ensures failed { IsErrOf result TextError.Failed → Rose (S.seen source.old).faults (S.seen source.new).faults }
     ensures not_missing { IsErrOf result TextError.Missing → ⊥ }
     ensures later { (S.seen source.old).faults ≤ (S.seen source.new).faults }

@@ -1,17 +1,13 @@
 -- How the steps of a run end, by their status.
-use Rattle.std.specs.Prelude.{◌≡◌, ℕ, List, Option, IsSomeAnd, ◌<◌, ◌≤◌, length, Result, Ok, Err, IsErrOf}
-use Rattle.desij.specs.Outside.{SeenShelf, SeenSink, Files, SeenSource, Rose}
+use Rattle.std.specs.Prelude.{◌≡◌, ℕ, List, Option, IsSomeAnd, ◌≤◌, Result, IsErrOf}
+use Rattle.desij.specs.Outside.{SeenShelf, SeenSink, SeenSource, IsMissing, Rose}
 use Rattle.desij.specs.Printing.{printed}
 use Rattle.desij.specs.Run.{Seen, Prints, BreaksOff, PutsAll, PutsFirst, PutsUpTo, TellsUsage, RefusesText, WritesParts, CannotRead, CannotPut, CannotPrint, LacksMemory}
 use Rattle.stg_decomp.specs.declared.part.Part.{Part}
 use Rattle.desij.specs.declared.status.Status.{Status}
 use Rattle.desij.specs.declared.status.Status.TheVariants.{Done, BadWords, Refused, ReadFault, WriteFault, PrintFault, NoMemory, ServeFault}
-use Rattle.desij.specs.declared.outside.PutError.{PutError}
-use Rattle.desij.specs.declared.outside.PutError.TheVariants as put_error
-use Rattle.desij.specs.Files.{HasParts, FailsAt}
 use Rattle.desij.specs.declared.reading.TextError.{TextError}
 use Rattle.desij.specs.declared.reading.TextError.TheVariants as text_error
-use Rattle.desij.specs.Reading.{IsMissing}
 
 -- how a run ends
 abbrev pub Ends : Option (List ℕ) → Status → Seen → Seen → Type 0
@@ -37,12 +33,6 @@ Finishes parts WriteFault old new sink sink' = ((k : ℕ) × PutsUpTo k parts ol
 Finishes parts PrintFault old new sink sink' = PutsAll parts old new × BreaksOff (printed parts) sink sink'
 Finishes parts NoMemory old new sink sink' = ((k : ℕ) × PutsFirst k parts old new) × (sink' ≡ sink)
 Finishes parts s old new sink sink' = ⊥
-
--- All files are set; or those before the one that failed; or some first ones, where memory ran out.
-abbrev pub PutsParts : List Part → Result (Unit {0}) PutError → Option Files → Option Files → Type 0
-PutsParts parts (Ok done) old new = HasParts parts (length parts) old new
-PutsParts parts (Err put_error.Failed) old new = (k : ℕ) × (k < length parts) × FailsAt parts k old new
-PutsParts parts (Err put_error.NoMemory) old new = (k : ℕ) × (k ≤ length parts) × HasParts parts k old new
 
 -- the count of faults never falls; a failure comes only where it rose, and a missing text only where the texts are told and none has that name
 pub record HasTextCause {T : Type 0} (name : List ℕ) (result : Result T TextError) (old new : SeenSource) : Type 0 where

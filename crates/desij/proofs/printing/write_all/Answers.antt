@@ -5,11 +5,11 @@ use Rattle.desij.proofs.printing.write_all.Goals as goal
 
 pub loop-at-preserved : goal.loop-at-preserved
 loop-at-preserved g c =
-    let wrote = c.in_ok-at.ensures.written in
+    let within = c.in_ok-at.ensures.within in
     record {
-      written = wrote.2
+      written = c.in_ok-at.ensures.taken
           ∙ ap (λ (w : Option (List ℕ)). append_known w (take c.in_ok-at.field-0 (take (length c.args.bytes.now - c.loop-at.at) (drop c.loop-at.at c.args.bytes.now)))) c.loop-at.invariant.written
           ∙ written_more (g.K.Sink.seen c.args.sink.now).written c.args.bytes.now c.loop-at.at c.in_ok-at.field-0;
-      inside = omega (arith, wrote.1, length-drop c.loop-at.at c.args.bytes.now);
+      inside = omega (arith, within.1, length-drop c.loop-at.at c.args.bytes.now);
       later = omega (arith, c.in_ok-at.ensures.cause.later);
     }
