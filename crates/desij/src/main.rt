@@ -4,6 +4,7 @@
 mod answer;
 mod calls;
 mod entries;
+mod faults;
 mod file_source;
 mod folder_shelf;
 mod memory_shelf;
