@@ -57,6 +57,10 @@ not_accepted name parts old new told accepted = go (named old.texts name) refl t
 not_missing : (name : List ℕ) (old : SeenSource) (P : List ℕ → Type 0) → IsSomeAnd (named old.texts name) P → named old.texts name ≡ None → ⊥
 not_missing name old P told none = let Q : Option (List ℕ) → Type 0 = λ found. IsSomeAnd found P in subst Q none told
 
+-- what the end of a run tells, told of its status
+pub ends_with : (form : Option (List ℕ)) (s status : Status) (old new : Seen) → Ends form s old new → s ≡ status → Ends form status old new
+ends_with form s status old new ends is = let P : Status → Type 0 = λ r. Ends form r old new in subst P is ends
+
 -- a run of an accepted text without a fault is done, but for want of memory
 pub completes : (form : Option (List ℕ)) (s : Status) (old new : Seen) → Ends form s old new → NoneRose old new → TellsAccepted form old.source
     → (s ≡ Done) ⊎ (s ≡ NoMemory)

@@ -1,7 +1,6 @@
 //! A run of the program: what the words say is done, and the status tells how it ended.
 
 ghost use Rattle.std.specs.Prelude.{◌≡◌, ◌≢◌, ◌⊎◌, ◌≤◌, All, None, Some, IsSomeAnd, length};
-ghost use Rattle.std.specs.Option.{option_copied};
 ghost use Rattle.astg_write.specs.Writable.{IsWritable};
 ghost use Rattle.stg_decomp.specs.declared.part.Part.{Part};
 ghost use Rattle.desij.specs.inner.Ends.{Ends, EndsRefusal, Finishes};
@@ -28,77 +27,42 @@ pub fn run<S: Source, F: Shelf, K: Sink>(
     sink: &mut K,
 ) -> Status
     requires { (S.seen source.old).selects ≡ 0 }
-
-    // What each status tells.
-    ensures done { result ≡ Status.Done → IsSomeAnd (spec_word words.now) (λ name. WritesParts name
-        (seen (S.seen source.old) (F.seen shelf.old) (K.seen sink.old))
-        (seen (S.seen source.new) (F.seen shelf.new) (K.seen sink.new))) }
-
-    // What the files mean; it follows from `done`, whose parts have these nets.
-    ensures components { result ≡ Status.Done → IsSomeAnd (spec_word words.now) (λ name. WritesComponents name
-        (seen (S.seen source.old) (F.seen shelf.old) (K.seen sink.old))
-        (seen (S.seen source.new) (F.seen shelf.new) (K.seen sink.new))) }
-    ensures bad_words { result ≡ Status.BadWords → TellsUsage (spec_word words.now)
-        (seen (S.seen source.old) (F.seen shelf.old) (K.seen sink.old))
-        (seen (S.seen source.new) (F.seen shelf.new) (K.seen sink.new)) }
-    ensures refused { result ≡ Status.Refused → IsSomeAnd (spec_word words.now) (λ name. RefusesText name
-        (seen (S.seen source.old) (F.seen shelf.old) (K.seen sink.old))
-        (seen (S.seen source.new) (F.seen shelf.new) (K.seen sink.new))) }
-    ensures read_fault { result ≡ Status.ReadFault → IsSomeAnd (spec_word words.now) (λ name. CannotRead name
-        (seen (S.seen source.old) (F.seen shelf.old) (K.seen sink.old))
-        (seen (S.seen source.new) (F.seen shelf.new) (K.seen sink.new))) }
-    ensures write_fault { result ≡ Status.WriteFault → IsSomeAnd (spec_word words.now) (λ name. CannotPut name
-        (seen (S.seen source.old) (F.seen shelf.old) (K.seen sink.old))
-        (seen (S.seen source.new) (F.seen shelf.new) (K.seen sink.new))) }
-    ensures print_fault { result ≡ Status.PrintFault → CannotPrint (spec_word words.now)
-        (seen (S.seen source.old) (F.seen shelf.old) (K.seen sink.old))
-        (seen (S.seen source.new) (F.seen shelf.new) (K.seen sink.new)) }
-    ensures no_memory { result ≡ Status.NoMemory → IsSomeAnd (spec_word words.now) (λ name. LacksMemory name
-        (seen (S.seen source.old) (F.seen shelf.old) (K.seen sink.old))
-        (seen (S.seen source.new) (F.seen shelf.new) (K.seen sink.new))) }
-    ensures serve_fault { result ≢ Status.ServeFault }
-
-    // Where a status has to come.
-    ensures without_form { spec_word words.now ≡ None → (result ≡ Status.BadWords) ⊎ (result ≡ Status.PrintFault) }
-    ensures not_accepted { NoneRose
-        (seen (S.seen source.old) (F.seen shelf.old) (K.seen sink.old))
-        (seen (S.seen source.new) (F.seen shelf.new) (K.seen sink.new))
-        → TellsRefused (spec_word words.now) (S.seen source.old)
-        → (result ≡ Status.Refused) ⊎ (result ≡ Status.NoMemory) }
-    ensures missing { IsSomeAnd (spec_word words.now) (λ name. IsMissing name (S.seen source.old)) → (result ≡ Status.ReadFault) ⊎ (result ≡ Status.NoMemory) }
-    ensures accepted { NoneRose
-        (seen (S.seen source.old) (F.seen shelf.old) (K.seen sink.old))
-        (seen (S.seen source.new) (F.seen shelf.new) (K.seen sink.new))
-        → TellsAccepted (spec_word words.now) (S.seen source.old)
-        → (result ≡ Status.Done) ⊎ (result ≡ Status.NoMemory) }
+    ensures status { let form = spec_word words.now in
+        let old = seen (S.seen source.old) (F.seen shelf.old) (K.seen sink.old) in
+        let new = seen (S.seen source.new) (F.seen shelf.new) (K.seen sink.new) in
+        record {
+          -- what each status tells
+          done : result ≡ Status.Done → IsSomeAnd form (λ name. WritesParts name old new);
+          -- what the files mean; it follows from done, whose parts have these nets
+          components : result ≡ Status.Done
+              → IsSomeAnd form (λ name. WritesComponents name old new);
+          bad_words : result ≡ Status.BadWords → TellsUsage form old new;
+          refused : result ≡ Status.Refused → IsSomeAnd form (λ name. RefusesText name old new);
+          read_fault : result ≡ Status.ReadFault → IsSomeAnd form (λ name. CannotRead name old new);
+          write_fault : result ≡ Status.WriteFault
+              → IsSomeAnd form (λ name. CannotPut name old new);
+          print_fault : result ≡ Status.PrintFault → CannotPrint form old new;
+          no_memory : result ≡ Status.NoMemory → IsSomeAnd form (λ name. LacksMemory name old new);
+          serve_fault : result ≢ Status.ServeFault;
+          -- where a status has to come
+          without_form : form ≡ None → (result ≡ Status.BadWords) ⊎ (result ≡ Status.PrintFault);
+          not_accepted : NoneRose old new → TellsRefused form old.source
+              → (result ≡ Status.Refused) ⊎ (result ≡ Status.NoMemory);
+          missing : IsSomeAnd form (λ name. IsMissing name old.source)
+              → (result ≡ Status.ReadFault) ⊎ (result ≡ Status.NoMemory);
+          accepted : NoneRose old new → TellsAccepted form old.source
+              → (result ≡ Status.Done) ⊎ (result ≡ Status.NoMemory);
+        } }
     ensures selects { (S.seen source.new).selects ≡ files_named (spec_word words.now) }
     ensures kept { (S.seen source.new).texts ≡ (S.seen source.old).texts }
 {
-    perform(alloc, spec_name(words), source, shelf, sink)
-}
-
-// Decomposes the file, where the words name one.
-fn perform<S: Source, F: Shelf, K: Sink>(
-    alloc: Global,
-    file: Option<&str>,
-    source: &mut S,
-    shelf: &mut F,
-    sink: &mut K,
-) -> Status
-    requires { (S.seen source.old).selects ≡ 0 }
-    ensures ends { Ends (option_copied file.entry) result
-        (seen (S.seen source.old) (F.seen shelf.old) (K.seen sink.old))
-        (seen (S.seen source.new) (F.seen shelf.new) (K.seen sink.new)) }
-    ensures selects { (S.seen source.new).selects ≡ files_named (option_copied file.entry) }
-    ensures kept { (S.seen source.new).texts ≡ (S.seen source.old).texts }
-{
-    let Some(name) = file else {
-        return match write_all(sink, USAGE) {
+    match spec_name(words) {
+        Some(name) => decompose(alloc, name, source, shelf, sink),
+        None => match write_all(sink, USAGE) {
             Ok(()) => Status::BadWords,
             Err(_) => Status::PrintFault,
-        };
-    };
-    decompose(alloc, name, source, shelf, sink)
+        },
+    }
 }
 
 // Decomposes the text of that name.
