@@ -27,7 +27,12 @@ pub record HasAnswer (text : List ℕ) (parts : List Part) : Type 0 where
 
 -- the line that tells a clash: both transitions and the place
 abbrev pub clash_line : SpecLists → Clash → List ℕ
-clash_line s c = codes "refused Clash " ++ trans_word s.net.signals s.net.trans c.t1 ++ 32 ∷ trans_word s.net.signals s.net.trans c.t2 ++ 32 ∷ place_word s c.place ++ 10 ∷ []
+clash_line s c =
+    codes "refused Clash "
+    ++ trans_word s.net.signals s.net.trans c.t1
+    ++ 32 ∷ trans_word s.net.signals s.net.trans c.t2
+    ++ 32 ∷ place_word s c.place
+    ++ 10 ∷ []
 
 -- the text's first bad line and the first rule that it breaks are told by this line
 pub record IsRefusedByRule (text line : List ℕ) : Type 0 where

@@ -21,7 +21,8 @@ bytes_of name (e ∷ es) = if bytes_eq name e.0 then Some e.1 else bytes_of name
 -- the entries with these bytes under that name: in the place of its first entry, or last
 abbrev pub put_entry : List ℕ → List ℕ → List NamedBytes → List NamedBytes
 put_entry name bytes [] = (name, bytes) ∷ []
-put_entry name bytes (e ∷ es) = if bytes_eq name e.0 then (name, bytes) ∷ es else e ∷ put_entry name bytes es
+put_entry name bytes (e ∷ es) =
+    if bytes_eq name e.0 then (name, bytes) ∷ es else e ∷ put_entry name bytes es
 
 -- the bytes of the entry at a place, none past the end
 abbrev pub bytes_at : List NamedBytes → ℕ → List ℕ

@@ -26,7 +26,13 @@ pub record SinkState : Type 0 where
 
 -- nothing is selected
 abbrev pub fresh_source : List NamedBytes → ℕ → List ℕ → SourceState
-fresh_source texts piece fails = record { texts = texts; left = []; piece = piece; selects = 0; calls = fresh_calls fails }
+fresh_source texts piece fails = record {
+  texts = texts;
+  left = [];
+  piece = piece;
+  selects = 0;
+  calls = fresh_calls fails;
+}
 
 -- no file
 abbrev pub fresh_shelf : List ℕ → ShelfState
@@ -38,7 +44,12 @@ fresh_sink room fails = record { bytes = []; room = room; calls = fresh_calls fa
 
 -- a source tells all that it has
 abbrev pub seen_source : SourceState → SeenSource
-seen_source s = record { texts = Some (files_of s.texts); left = Some s.left; selects = s.selects; faults = s.calls.faults }
+seen_source s = record {
+  texts = Some (files_of s.texts);
+  left = Some s.left;
+  selects = s.selects;
+  faults = s.calls.faults;
+}
 
 -- so does a shelf
 abbrev pub seen_shelf : ShelfState → SeenShelf

@@ -12,11 +12,15 @@ count_text word n = word ++ decimal n
 
 -- how many signals are a part's own, and how many others it knows
 unfoldable pub signal_counts : Part → List ℕ
-signal_counts p = count_text (codes " own ") (length p.own) ++ count_text (codes " inputs ") (length p.known - length p.own)
+signal_counts p =
+    count_text (codes " own ") (length p.own)
+    ++ count_text (codes " inputs ") (length p.known - length p.own)
 
 -- how many transitions and places a net has
 unfoldable pub net_sizes : NetLists → List ℕ
-net_sizes n = count_text (codes " transitions ") (length n.trans) ++ count_text (codes " places ") (length n.tokens)
+net_sizes n =
+    count_text (codes " transitions ") (length n.trans)
+    ++ count_text (codes " places ") (length n.tokens)
 
 -- the line of a part of that number
 unfoldable pub part_line : ℕ → Part → List ℕ
@@ -37,7 +41,8 @@ printed parts = part_lines 1 parts ++ count_text (codes "done ") (length parts) 
 
 -- the line that tells the rule that a text breaks, and where
 abbrev pub refusal : Rule → ℕ → List ℕ
-refusal rule line = codes "refused " ++ rule_text rule ++ count_text (codes " line ") line ++ 10 ∷ []
+refusal rule line =
+    codes "refused " ++ rule_text rule ++ count_text (codes " line ") line ++ 10 ∷ []
 
 -- a prefix of these bytes was appended
 abbrev pub IsPrefixPrinted : List ℕ → Option (List ℕ) → Option (List ℕ) → Type 0

@@ -13,7 +13,8 @@ is_file_word (c ∷ cs) = not (c == 45)
 abbrev pub file_of : List (List ℕ) → Option (List ℕ)
 file_of [] = None
 file_of (command ∷ []) = None
-file_of (command ∷ name ∷ []) = if bytes_eq command (codes "decompose") && is_file_word name then Some name else None
+file_of (command ∷ name ∷ []) =
+    if bytes_eq command (codes "decompose") && is_file_word name then Some name else None
 file_of (command ∷ name ∷ other ∷ more) = None
 
 -- the name of the specification, where the words are of the form

@@ -64,7 +64,7 @@ fn answer_of(alloc: Global, text: &[u8], spec: &Spec) -> Result<Answer, Unmade>
     requires stands { StandsFor Limits.SPEC text.now spec.now }
     requires within { IsWithin Limits.SPEC spec.now.net }
     ensures answer { IfOk result (λ a. HasAnswer text.now a.parts) }
-    ensures few { IfOk result (λ a. length a.parts ≤ 250) }
+    ensures few { IfOk result (λ a. length a.parts ≤ Limits.SPEC.signals) }
     ensures fit { IfOk result (λ a. All (λ (p : Part). IsWritable p.net) a.parts) }
     ensures refused { IfErr result (λ e. IsTold text.now e) }
 {
@@ -78,7 +78,7 @@ fn answer_of(alloc: Global, text: &[u8], spec: &Spec) -> Result<Answer, Unmade>
 /// Makes the parts of a text.
 pub fn make_answer(alloc: Global, text: &[u8]) -> Result<Answer, Unmade>
     ensures answer { IfOk result (λ a. HasAnswer text.now a.parts) }
-    ensures few { IfOk result (λ a. length a.parts ≤ 250) }
+    ensures few { IfOk result (λ a. length a.parts ≤ Limits.SPEC.signals) }
     ensures fit { IfOk result (λ a. All (λ (p : Part). IsWritable p.net) a.parts) }
     ensures refused { IfErr result (λ e. IsTold text.now e) }
 {

@@ -10,7 +10,8 @@ use stg_net::{NoMemory, Seq, Text};
 /// The place of the first entry of that name.
 pub fn place_of(entries: &[(Text, Text)], name: &[u8]) -> Option<usize>
     ensures place { IsPlaceOf name.now entries.now result }
-    ensures put { (b : List ℕ) → put_entry name.now b entries.now ≡ put_at result (name.now, b) entries.now }
+    ensures put { (b : List ℕ)
+        → put_entry name.now b entries.now ≡ put_at result (name.now, b) entries.now }
 {
     for (i, entry) in entries.iter().enumerate() {
         if name == entry.0.as_slice() {

@@ -32,7 +32,8 @@ use std::process::ExitCode;
 use std_sink::StdSink;
 use stg_net::NoMemory;
 
-// The words after the program's name. A word that isn't UTF-8 is in no form, and neither are no words.
+// The words after the program's name. A word that isn't UTF-8 is in no form, and neither are no
+// words.
 fn all_words(rt: &(impl Env + AllocGlobal)) -> Result<Vec<String>, NoMemory> {
     let mut words = Vec::new(rt.alloc());
     match env::args(rt) {

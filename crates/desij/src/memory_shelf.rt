@@ -58,8 +58,8 @@ impl Shelf for MemShelf {
           files = put_entry name.now bytes.now self.old.files;
           calls = after_call self.old.calls;
         }) }
-        ensures files { OnOk result
-            ((seen_shelf self.new).files ≡ with_file (seen_shelf self.old).files name.now bytes.now) }
+        ensures files { OnOk result ((seen_shelf self.new).files
+            ≡ with_file (seen_shelf self.old).files name.now bytes.now) }
         ensures failed { IsErrOf result PutError.Failed ↔ FailsNext self.old.calls }
         ensures fault { IsErrOf result PutError.Failed → self.new ≡ record self.old {
           calls = after_fault self.old.calls;
@@ -67,7 +67,7 @@ impl Shelf for MemShelf {
         ensures no_memory { IsErrOf result PutError.NoMemory → self.new ≡ record self.old {
           calls = after_call self.old.calls;
         } }
-        ensures cause { HasPutCause (seen_shelf self.old).faults (seen_shelf self.new).faults result }
+        ensures cause { HasPutCause self.old.calls.faults self.new.calls.faults result }
     {
         if self.calls.begin().is_err() {
             return Err(PutError::Failed);

@@ -67,7 +67,7 @@ impl Sink for MemSink {
         ensures err { OnErr result (self.new ≡ record self.old {
           calls = after_fault self.old.calls;
         }) }
-        ensures cause { HasCause (seen_sink self.old).faults (seen_sink self.new).faults result }
+        ensures cause { HasCause self.old.calls.faults self.new.calls.faults result }
     {
         self.calls.begin()?;
         let room = self.room as usize - self.bytes.len();

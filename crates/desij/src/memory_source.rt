@@ -30,7 +30,13 @@ impl Model for MemSource {
 
     ghost Value = { SourceState };
 
-    ghost view = { λ s. record { texts = s.texts; left = drop s.from (bytes_at s.texts s.chosen); piece = s.piece; selects = s.selects; calls = s.calls } };
+    ghost view = { λ s. record {
+      texts = s.texts;
+      left = drop s.from (bytes_at s.texts s.chosen);
+      piece = s.piece;
+      selects = s.selects;
+      calls = s.calls;
+    } };
 
     ghost invariant = { λ s. (s.from ≤ length (bytes_at s.texts s.chosen)) × (1 ≤ s.piece) };
 }
@@ -75,7 +81,7 @@ impl Source for MemSource {
           selects = self.old.selects + 1;
           calls = after_fault self.old.calls;
         }) }
-        ensures cause { HasCause (seen_source self.old).faults (seen_source self.new).faults result }
+        ensures cause { HasCause self.old.calls.faults self.new.calls.faults result }
     {
         self.selects += 1;
         self.calls.begin()?;
@@ -104,7 +110,7 @@ impl Source for MemSource {
         ensures err { OnErr result (self.new ≡ record self.old {
           calls = after_fault self.old.calls;
         }) }
-        ensures cause { HasCause (seen_source self.old).faults (seen_source self.new).faults result }
+        ensures cause { HasCause self.old.calls.faults self.new.calls.faults result }
     {
         self.calls.begin()?;
         let left = &text_at(self.texts.as_slice(), self.chosen)[self.from..];

@@ -1,11 +1,11 @@
 //! What a run prints, and how it is written to a sink.
 
 ghost use Rattle.std.specs.Prelude.{◌≡◌, ◌+◌, ◌<◌, ◌++◌, length, IfOk, OnOk, OnErr};
-ghost use Rattle.std.specs.Io.KnownBytes.{append_known};
 ghost use Rattle.std.specs.String.{string_bytes};
 ghost use Rattle.desij.specs.Answering.{clash_line};
 ghost use Rattle.desij.specs.Outside.{HasCause};
 ghost use Rattle.desij.specs.Printing.{IsPrefixPrinted, count_text, net_sizes, part_line, printed, refusal, signal_counts};
+ghost use Rattle.desij.specs.Run.{Prints};
 
 use crate::outside::{Failed, Sink};
 use astg_read::Rule;
@@ -97,8 +97,9 @@ pub fn clash_text(alloc: Global, spec: &Spec, clash: Clash) -> Result<Text, NoMe
 
 /// Writes all of these bytes.
 pub fn write_all<K: Sink>(sink: &mut K, bytes: &[u8]) -> Result<(), Failed>
-    ensures ok { OnOk result ((K.seen sink.new).written ≡ append_known (K.seen sink.old).written bytes.now) }
-    ensures err { OnErr result (IsPrefixPrinted bytes.now (K.seen sink.old).written (K.seen sink.new).written) }
+    ensures ok { OnOk result (Prints bytes.now (K.seen sink.old) (K.seen sink.new)) }
+    ensures err { OnErr result
+        (IsPrefixPrinted bytes.now (K.seen sink.old).written (K.seen sink.new).written) }
     ensures cause { HasCause (K.seen sink.old).faults (K.seen sink.new).faults result }
 {
     let mut at = 0;

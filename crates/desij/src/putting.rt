@@ -12,10 +12,11 @@ ghost use Rattle.desij.specs.Run.{PutsAll, PutsFirst, PutsUpTo};
 use crate::outside::{PutError, Shelf};
 use std::alloc::{AllocError, Global};
 use stg_decomp::{Answer, part_text};
+use stg_net::Limits;
 
 /// Puts the file of each part, in order.
 pub fn put_parts<F: Shelf>(alloc: Global, answer: &Answer, shelf: &mut F) -> Result<(), PutError>
-    requires few { length answer.now.parts ≤ 250 }
+    requires few { length answer.now.parts ≤ Limits.SPEC.signals }
     requires fit { All (λ (p : Part). IsWritable p.net) answer.now.parts }
     ensures ok { OnOk result (PutsAll answer.now.parts (F.seen shelf.old) (F.seen shelf.new)) }
     ensures failed { IsErrOf result PutError.Failed
@@ -33,10 +34,10 @@ pub fn put_parts<F: Shelf>(alloc: Global, answer: &Answer, shelf: &mut F) -> Res
 #[tactic(auto, using(crate::proofs::PutLemmas::net_of_part))]
 fn put_part<F: Shelf>(alloc: Global, answer: &Answer, k: u32, shelf: &mut F) -> Result<(), PutError>
     requires there { k < length answer.now.parts }
-    requires number { k ≤ 249 }
+    requires few { length answer.now.parts ≤ Limits.SPEC.signals }
     requires fit { All (λ (p : Part). IsWritable p.net) answer.now.parts }
-    ensures ok { OnOk result ((F.seen shelf.new).files
-        ≡ with_file (F.seen shelf.old).files (part_name k) (net_bytes (nets_of answer.now.parts) k)) }
+    ensures ok { OnOk result (let bytes = net_bytes (nets_of answer.now.parts) k in
+        (F.seen shelf.new).files ≡ with_file (F.seen shelf.old).files (part_name k) bytes) }
     ensures failed { IsErrOf result PutError.Failed
         → without_file (F.seen shelf.new).files (part_name k)
         ≡ without_file (F.seen shelf.old).files (part_name k) }

@@ -49,7 +49,8 @@ impl From<NoMemory> for TextError {
 /// Selects a text and reads it, up to its end or to `MOST` bytes.
 pub fn read_text<S: Source>(alloc: Global, source: &mut S, name: &str) -> Result<Text, TextError>
     requires { (S.seen source.old).selects < 8 }
-    ensures text { IfOk result (λ text. ReadsUpTo MOST name.now text (S.seen source.old) (S.seen source.new)) }
+    ensures text { IfOk result (λ text.
+        ReadsUpTo MOST name.now text (S.seen source.old) (S.seen source.new)) }
     ensures selects { (S.seen source.new).selects ≡ (S.seen source.old).selects + 1 }
     ensures cause { HasTextCause name.now result (S.seen source.old) (S.seen source.new) }
     ensures kept { (S.seen source.new).texts ≡ (S.seen source.old).texts }
@@ -66,7 +67,8 @@ fn read_rest<S: Source>(alloc: Global, source: &mut S) -> Result<Text, TextError
         (S.seen source.old).left ≡ prepend_known text (S.seen source.new).left) }
     ensures at_most { IfOk result (λ text. length text ≤ MOST) }
     ensures whole { IfOk result (λ text. length text < MOST → IsAtEnd (S.seen source.new).left) }
-    ensures failed { IsErrOf result TextError.Failed → Rose (S.seen source.old).faults (S.seen source.new).faults }
+    ensures failed { IsErrOf result TextError.Failed
+        → Rose (S.seen source.old).faults (S.seen source.new).faults }
     ensures not_missing { IsErrOf result TextError.Missing → ⊥ }
     ensures later { (S.seen source.old).faults ≤ (S.seen source.new).faults }
     ensures selects { (S.seen source.new).selects ≡ (S.seen source.old).selects }

@@ -17,6 +17,7 @@ use crate::status::Status;
 use crate::words::{USAGE, spec_name};
 use std::alloc::Global;
 use stg_decomp::Answer;
+use stg_net::Limits;
 
 /// Does what the words say. A run that the words don't call for prints the usage.
 pub fn run<S: Source, F: Shelf, K: Sink>(
@@ -94,9 +95,10 @@ fn decompose<S: Source, F: Shelf, K: Sink>(
 
 // Puts the files of an answer and prints its lines.
 fn finish<F: Shelf, K: Sink>(alloc: Global, answer: &Answer, shelf: &mut F, sink: &mut K) -> Status
-    requires few { length answer.now.parts ≤ 250 }
+    requires few { length answer.now.parts ≤ Limits.SPEC.signals }
     requires fit { All (λ (p : Part). IsWritable p.net) answer.now.parts }
-    ensures { Finishes answer.now.parts result (F.seen shelf.old) (F.seen shelf.new) (K.seen sink.old) (K.seen sink.new) }
+    ensures { Finishes answer.now.parts result
+        (F.seen shelf.old) (F.seen shelf.new) (K.seen sink.old) (K.seen sink.new) }
 {
     let Ok(text) = printed_text(alloc, answer) else {
         return Status::NoMemory;

@@ -30,12 +30,14 @@ EndsRefusal line s old new = ⊥
 abbrev pub Finishes : List Part → Status → SeenShelf → SeenShelf → SeenSink → SeenSink → Type 0
 Finishes parts Done old new sink sink' = PutsAll parts old new × Prints (printed parts) sink sink'
 Finishes parts WriteFault old new sink sink' = ((k : ℕ) × PutsUpTo k parts old new) × (sink' ≡ sink)
-Finishes parts PrintFault old new sink sink' = PutsAll parts old new × BreaksOff (printed parts) sink sink'
+Finishes parts PrintFault old new sink sink' =
+    PutsAll parts old new × BreaksOff (printed parts) sink sink'
 Finishes parts NoMemory old new sink sink' = ((k : ℕ) × PutsFirst k parts old new) × (sink' ≡ sink)
 Finishes parts s old new sink sink' = ⊥
 
 -- the count of faults never falls; a failure comes only where it rose, and a missing text only where the texts are told and none has that name
-pub record HasTextCause {T : Type 0} (name : List ℕ) (result : Result T TextError) (old new : SeenSource) : Type 0 where
+pub record HasTextCause {T : Type 0} (name : List ℕ) (result : Result T TextError)
+    (old new : SeenSource) : Type 0 where
   pub later : old.faults ≤ new.faults
   pub failed : IsErrOf result text_error.Failed → Rose old.faults new.faults
   pub missing : IsErrOf result text_error.Missing → IsMissing name old

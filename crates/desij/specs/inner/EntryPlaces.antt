@@ -10,4 +10,6 @@ put_at (Some i) e es = slice_set es i e
 
 -- the place of the first entry of that name
 abbrev pub IsPlaceOf : List ℕ → List NamedBytes → Option ℕ → Type 0
-IsPlaceOf name es place = MatchOption place (bytes_of name es ≡ None) (λ i. (i < length es) × (bytes_of name es ≡ option_map (λ (e : NamedBytes). e.1) (slice_get es i)))
+IsPlaceOf name es place = MatchOption place (bytes_of name es ≡ None) (λ i.
+    (i < length es)
+    × (bytes_of name es ≡ option_map (λ (e : NamedBytes). e.1) (slice_get es i)))
