@@ -35,6 +35,6 @@ tokens-le n p within = elim (cases_lt p (length n.tokens)) [
 pub initial-light : (n : NetLists) (known : List ℕ) → IsNet n → IsWithin PART n → IsLight (initial n known)
 initial-light n known net within x = record {
   tokens = omega (arith, tokens_at-initial n known x.0, tokens_at-initial n known x.1, tokens-le n x.0 within, tokens-le n x.1 within);
-  taken = λ u. omega (arith, takes-initial n known u x.0 net, takes-initial n known u x.1 net, weight_of-le n false u x.0 net within, weight_of-le n false u x.1 net within);
-  given = λ u. omega (arith, gives-initial n known u x.0 net, gives-initial n known u x.1 net, weight_of-le n true u x.0 net within, weight_of-le n true u x.1 net within);
+  taken = λ u inside. omega (arith, takes-initial n known u x.0 net, takes-initial n known u x.1 net, weight_of-le n false u x.0 net within, weight_of-le n false u x.1 net within);
+  given = λ u inside. omega (arith, gives-initial n known u x.0 net, gives-initial n known u x.1 net, weight_of-le n true u x.0 net within, weight_of-le n true u x.1 net within);
 }

@@ -342,7 +342,7 @@ can_replace base l t timed range live small arena places cells =
             tokens = omega (arith, s.tokens, tokens_now base l x.0 timed lives.0.0 lives.0.1, tokens_now base l x.1 timed lives.1.0 lives.1.1);
             sums = λ way v inside v_live. omega (
               arith,
-              sum way x v s,
+              sum way x v s (omega (arith, inside, length-map-range_with_len (draft_name l base.names (length l.removals)) 0 (length l.trans))),
               weight_of_live base l way v x.0 timed inside lives.0.0 lives.0.1,
               weight_of_live base l way v x.1 timed inside lives.1.0 lives.1.1,
               ap (λ z. cond z (weight l.cells way x.0 v) 0) (alive l Trans v timed v_live),
@@ -359,9 +359,9 @@ can_replace base l t timed range live small arena places cells =
       );
     })
   where
-    sum : (way : Way) (x : ℕ × ℕ) (v : ℕ) → IsSmallPair (now_of base l) x → weight_in (now_of base l) way v x.0 + weight_in (now_of base l) way v x.1 < 2 ^ 32
-    sum Take x v s = s.taken v
-    sum Give x v s = s.given v
+    sum : (way : Way) (x : ℕ × ℕ) (v : ℕ) → IsSmallPair (now_of base l) x → v < length (now_of base l).trans → weight_in (now_of base l) way v x.0 + weight_in (now_of base l) way v x.1 < 2 ^ 32
+    sum Take x v s inside = s.taken v inside
+    sum Give x v s inside = s.given v inside
 
 -- t lives, and there is room for what its contraction makes
 pub record IsReplaceable (base : Base) (t : ℕ) (l : Layout) : Type 0 where

@@ -114,8 +114,8 @@ light-pairs g t light = λ i d below. small (get_or (pairs_round g t) i d)
         let other = light_place (place_at g x.1) (light_at g light x.1) in
         record {
           tokens = omega (arith, one.0, other.0);
-          taken = λ u. omega (arith, one.1.0 u, other.1.0 u);
-          given = λ u. omega (arith, one.1.1 u, other.1.1 u);
+          taken = λ u inside. omega (arith, one.1.0 u, other.1.0 u);
+          given = λ u inside. omega (arith, one.1.1 u, other.1.1 u);
         }
 
 -- t can be contracted, which makes one place with two arcs

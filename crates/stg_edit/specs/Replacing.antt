@@ -20,5 +20,5 @@ new_arcs g t = sum_by (arcs_of_pair g t) (pairs_round g t)
 -- the tokens of a pair, and its weights at each transition, together fit 32 bits
 pub record IsSmallPair (g : Graph) (x : ℕ × ℕ) : Type 0 where
   pub tokens : tokens_at g x.0 + tokens_at g x.1 < 2 ^ 32
-  pub taken : (u : ℕ) → takes g u x.0 + takes g u x.1 < 2 ^ 32
-  pub given : (u : ℕ) → gives g u x.0 + gives g u x.1 < 2 ^ 32
+  pub taken : (u : ℕ) → u < length g.trans → takes g u x.0 + takes g u x.1 < 2 ^ 32
+  pub given : (u : ℕ) → u < length g.trans → gives g u x.0 + gives g u x.1 < 2 ^ 32
