@@ -158,3 +158,9 @@ module _ (g : Graph) (t : ℕ) where
     gone = not_itself;
     known = refl;
   }
+
+  -- each place of the contracted graph is that of the origin that is told
+  pub place_at-origin : (r : ℕ)
+      → place_at (contracted g t) r ≡ place_from (contracted-IsContraction.origin r)
+  unfolding contracted-IsContraction
+  place_at-origin r = place_at-contracted r

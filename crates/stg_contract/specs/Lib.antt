@@ -1,0 +1,5 @@
+pub mod Verdicts
+pub mod Calm
+pub mod Room
+pub mod Laws
+pub mod inner

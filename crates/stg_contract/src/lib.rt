@@ -1,0 +1,27 @@
+//! The contraction of dummies: the verdict on each, what a contraction costs, and the contraction.
+#![tactic(auto)]
+
+mod arcs;
+mod clash;
+mod contraction;
+mod judge;
+mod large;
+mod laws;
+mod left;
+mod pure;
+mod reach;
+mod rivals;
+#[cfg(test)]
+mod rows;
+mod secure;
+#[cfg(test)]
+mod tests;
+mod verdict;
+mod walks;
+#[cfg(test)]
+mod worked;
+
+pub use contraction::{contract, cost};
+pub use judge::{test, test_calm};
+pub use laws::{law_calm, law_one_verdict};
+pub use verdict::{Cost, Verdict};
