@@ -19,12 +19,14 @@ pub length-weighted_suc : (n : ℕ) (w : ℕ → ℕ) → length (weighted (suc 
 length-weighted_suc n w = ap (λ k. length (weighted k w)) (let e : suc n ≡ n + 1 = omega arith in e) ∙ weighted_more n w
 
 -- smaller weights are no more
-pub length-weighted_less : (n : ℕ) (w v : ℕ → ℕ) → ((k : ℕ) → k < n → v k ≤ w k) → length (weighted n v) ≤ length (weighted n w)
+pub length-weighted_less : (n : ℕ) (w v : ℕ → ℕ) → ((k : ℕ) → k < n → v k ≤ w k)
+    → length (weighted n v) ≤ length (weighted n w)
 length-weighted_less zero w v h = omega arith
 length-weighted_less (suc n) w v h = omega (arith, length-weighted_suc n w, length-weighted_suc n v, length-weighted_less n w v (λ k l. h k (omega arith)), h n (omega arith))
 
 -- one more number in a sum
-pub sum_filter_suc : (f : ℕ → ℕ) (q : ℕ → Bool) (n : ℕ) → sum_by f (filter q (range_with_len 0 (suc n))) ≡ sum_by f (filter q (range_with_len 0 n)) + cond (q n) (f n) 0
+pub sum_filter_suc : (f : ℕ → ℕ) (q : ℕ → Bool) (n : ℕ)
+    → sum_by f (filter q (range_with_len 0 (suc n))) ≡ sum_by f (filter q (range_with_len 0 n)) + cond (q n) (f n) 0
 sum_filter_suc f q n = ap (λ k. sum_by f (filter q (range_with_len 0 k))) (let e : suc n ≡ n + 1 = omega arith in e) ∙ sum_more f q n
 
 -- what passes a stricter test counts no more
@@ -34,7 +36,9 @@ cond_less true false x y h le = omega arith
 cond_less false true x y h le = absurd (false≢true (h refl))
 cond_less false false x y h le = omega arith
 
-sum_less : (f h : ℕ → ℕ) (q r : ℕ → Bool) (n : ℕ) → ((k : ℕ) → r k ≡ true → q k ≡ true) → ((k : ℕ) → h k ≤ f k) → sum_by h (filter r (range_with_len 0 n)) ≤ sum_by f (filter q (range_with_len 0 n))
+sum_less : (f h : ℕ → ℕ) (q r : ℕ → Bool) (n : ℕ) → ((k : ℕ) → r k ≡ true → q k ≡ true)
+    → ((k : ℕ) → h k ≤ f k)
+    → sum_by h (filter r (range_with_len 0 n)) ≤ sum_by f (filter q (range_with_len 0 n))
 sum_less f h q r zero a b = omega arith
 sum_less f h q r (suc n) a b = omega (arith, sum_filter_suc f q n, sum_filter_suc h r n, sum_less f h q r n a b, cond_less (q n) (r n) (f n) (h n) (a n) (b n))
 
@@ -75,7 +79,8 @@ less_calm g h l calm = record {
 }
 
 -- what is read of a place that has gone, or of another one
-without_less : (f : Option Place → ℕ) → f None ≡ 0 → (g : Graph) (p r : ℕ) → f (place_at (without_place g p) r) ≤ f (place_at g r)
+without_less : (f : Option Place → ℕ) → f None ≡ 0 → (g : Graph) (p r : ℕ)
+    → f (place_at (without_place g p) r) ≤ f (place_at g r)
 without_less f none g p r = elim (cases_eq r p) [
   | inr other ↦ omega (arith, ap f (get_or-set_other g.places p r None None other))
   | inl e ↦ elim (cases_lt p (length g.places)) [

@@ -72,7 +72,8 @@ left_found_at g t y at =
     turn_to (MeetLeft g t) g u.number v.number y c (record { rivals = c.rivals; place = p; left = left_found g t p at.left; u_takes = u.some; v_takes = v.some })
 
 -- two takers of p and of q that give y
-clash_at : (g : Graph) (u v p q : ℕ) (y : ℕ × ℕ) → AreRivals g u v → 0 < takes g u p → 0 < takes g v q → ordered_rivals g u v ≡ Some y → ClashesAt g p (q, 0) y
+clash_at : (g : Graph) (u v p q : ℕ) (y : ℕ × ℕ) → AreRivals g u v → 0 < takes g u p → 0 < takes g v q
+    → ordered_rivals g u v ≡ Some y → ClashesAt g p (q, 0) y
 clash_at g u v p q y rivals up vq e =
     let in_v : Found (λ x. Clashes g u x y) (λ w. takes g w q) 0 (length g.trans) =
     record { number = v; low = omega arith; high = omega (arith, live_below g v (known_live g v rivals.u_known)); some = vq; holds = e } in
@@ -88,7 +89,8 @@ round_there g t u v y m e =
     record { number = m.before; low = omega arith; high = omega (arith, taken_below g t m.before m.taken); some = m.taken; holds = one_from (λ x. ClashesAt g m.before x y) (gives g t) (length g.places) 0 in_q } in
     inr (one_from (λ x. ClashesAfter g (given_places g t) x y) (takes g t) (length g.places) 0 in_p)
 
-left_there_at : (g : Graph) (t u v : ℕ) (y : ℕ × ℕ) → MeetLeft g t u v → ordered_rivals g u v ≡ Some y → AtLeft g t (length g.places) y
+left_there_at : (g : Graph) (t u v : ℕ) (y : ℕ × ℕ) → MeetLeft g t u v → ordered_rivals g u v ≡ Some y
+    → AtLeft g t (length g.places) y
 left_there_at g t u v y m e = record {
   place = m.place;
   below = taken_below g u m.place m.u_takes;
@@ -101,7 +103,8 @@ module _ (g : Graph) (t : ℕ) (dummy : IsDummy g t) where
   abbrev Meets : ℕ → ℕ → Type 0
   Meets u v = (Meet g t u v ⊎ Meet g t v u) ⊎ MeetLeft g t u v
 
-  by_origin : (u v : ℕ) (o : Origin) → IsOriginAt g t o → AreRivals g u v → 0 < sum_over o (takes g u) → 0 < sum_over o (takes g v) → Meets u v
+  by_origin : (u v : ℕ) (o : Origin) → IsOriginAt g t o → AreRivals g u v → 0 < sum_over o (takes g u)
+      → 0 < sum_over o (takes g v) → Meets u v
   by_origin u v NoPlace f rivals a b = absurd (omega (arith, a))
   by_origin u v (OldPlace p) f rivals a b =
       inr (record { rivals = rivals; place = p; left = record { live = taken_is_place g u p a; stays = inl f }; u_takes = a; v_takes = b })
@@ -132,7 +135,10 @@ module _ (g : Graph) (t : ℕ) (dummy : IsDummy g t) where
   known_other u known e = let k : IsKnown g t = subst (IsKnown g) e known in false≢true (sym dummy.hidden ∙ k)
 
   -- rivals that take from one place of the contracted graph clash there
-  clash_from : (u v r : ℕ) → AreRivals g u v → 0 < sum_over ((contracted-IsContraction g t).origin r) (takes g u) → 0 < sum_over ((contracted-IsContraction g t).origin r) (takes g v) → IsAutoConflict (contracted g t) u v r
+  clash_from : (u v r : ℕ) → AreRivals g u v
+      → 0 < sum_over ((contracted-IsContraction g t).origin r) (takes g u)
+      → 0 < sum_over ((contracted-IsContraction g t).origin r) (takes g v)
+      → IsAutoConflict (contracted g t) u v r
   clash_from u v r rivals up vp =
       let k = contracted-IsContraction g t in
       let u_other = known_other u rivals.t_known in
@@ -166,7 +172,8 @@ module _ (g : Graph) (t : ℕ) (dummy : IsDummy g t) where
   turned u v r c = record { rivals = rivals_turned (contracted g t) u v c.rivals; t_takes = c.u_takes; u_takes = c.t_takes }
 
   -- rivals that clash in one of the two orders
-  in_order : (P : ℕ → ℕ → Type 0) → ((u v : ℕ) → P u v → (r : ℕ) × IsAutoConflict (contracted g t) u v r) → (y : ℕ × ℕ) → InOrder P y → AreClashing (contracted g t) y.0 y.1
+  in_order : (P : ℕ → ℕ → Type 0) → ((u v : ℕ) → P u v → (r : ℕ) × IsAutoConflict (contracted g t) u v r)
+      → (y : ℕ × ℕ) → InOrder P y → AreClashing (contracted g t) y.0 y.1
   in_order P clash y o = elim o.0 [
     | inl m ↦ let c = clash y.0 y.1 m in record { place = c.0; conflict = c.1; ascends = o.1 }
     | inr m ↦ let c = clash y.1 y.0 m in record { place = c.0; conflict = turned y.1 y.0 c.0 c.1; ascends = o.1 }
@@ -187,7 +194,8 @@ module _ (g : Graph) (t : ℕ) (dummy : IsDummy g t) where
     | inr m ↦ inr (left_there_at g t y.0 y.1 y m (clash_there g y.0 y.1 m.rivals c.ascends).0)
   ]
 
-  least_clash : (o : Option (ℕ × ℕ)) → IsLeastOf (λ y. AreClashing (contracted g t) y.0 y.1) o → IsLeastClashOf (contracted g t) o
+  least_clash : (o : Option (ℕ × ℕ)) → IsLeastOf (λ y. AreClashing (contracted g t) y.0 y.1) o
+      → IsLeastClashOf (contracted g t) o
   least_clash (Some x) least = record { clashing = least.0; least = λ v w c. least.1 (v, w) c }
   least_clash None none = λ u v r c. elim (cases_order u v) [
     | inl same ↦ c.rivals.differ same

@@ -22,7 +22,8 @@ use Rattle.stg_contract.proofs.DummyTests.{any_at, any_from, taken_below, given_
 use Rattle.stg_contract.proofs.LeftPlaces.{IsLeft, HasPair, StandsFor, left_found, left_there, left_stands}
 
 -- a number for each transition but t, as it is read
-each_other-at : (g : Graph) (t : ℕ) (f : ℕ → ℕ) (u : ℕ) → get_or (each_other g t f) u 0 ≡ cond (ltb u (length g.trans)) (cond (eqb u t) 0 (f u)) 0
+each_other-at : (g : Graph) (t : ℕ) (f : ℕ → ℕ) (u : ℕ)
+    → get_or (each_other g t f) u 0 ≡ cond (ltb u (length g.trans)) (cond (eqb u t) 0 (f u)) 0
 each_other-at g t f u = elim (cases_lt u (length g.trans)) [
   | inl low ↦ get_or-map-range_with_len (λ u. cond (eqb u t) 0 (f u)) 0 (length g.trans) u u 0 low (zero-add u) ∙ sym (ap (λ z. cond z (cond (eqb u t) 0 (f u)) 0) (lt-ltb u (length g.trans) low))
   | inr past ↦
@@ -31,16 +32,20 @@ each_other-at g t f u = elim (cases_lt u (length g.trans)) [
 ]
 
 -- the weight of a new place
-pair_weight : (take : Bool) (g : Graph) (t u r p q : ℕ) → (contracted-IsContraction g t).origin r ≡ PairPlace p q → weight take (contracted g t) u r ≡ cond (ltb u (length g.trans)) (cond (eqb u t) 0 (weight take g u p + weight take g u q)) 0
+pair_weight : (take : Bool) (g : Graph) (t u r p q : ℕ)
+    → (contracted-IsContraction g t).origin r ≡ PairPlace p q
+    → weight take (contracted g t) u r ≡ cond (ltb u (length g.trans)) (cond (eqb u t) 0 (weight take g u p + weight take g u q)) 0
 pair_weight true g t u r p q e = ap (taken_by u) (place_at-origin g t r ∙ ap (place_from g t) e) ∙ each_other-at g t (λ u. takes g u p + takes g u q) u
 pair_weight false g t u r p q e = ap (given_by u) (place_at-origin g t r ∙ ap (place_from g t) e) ∙ each_other-at g t (λ u. gives g u p + gives g u q) u
 
 -- the weight of a place that stayed
-old_weight : (take : Bool) (g : Graph) (t u r p : ℕ) → (contracted-IsContraction g t).origin r ≡ OldPlace p → weight take (contracted g t) u r ≡ weight take g u p
+old_weight : (take : Bool) (g : Graph) (t u r p : ℕ) → (contracted-IsContraction g t).origin r ≡ OldPlace p
+    → weight take (contracted g t) u r ≡ weight take g u p
 old_weight true g t u r p e = ap (taken_by u) (place_at-origin g t r ∙ ap (place_from g t) e)
 old_weight false g t u r p e = ap (given_by u) (place_at-origin g t r ∙ ap (place_from g t) e)
 
-gone_weight : (take : Bool) (g : Graph) (t u r : ℕ) → (contracted-IsContraction g t).origin r ≡ NoPlace → weight take (contracted g t) u r ≡ 0
+gone_weight : (take : Bool) (g : Graph) (t u r : ℕ) → (contracted-IsContraction g t).origin r ≡ NoPlace
+    → weight take (contracted g t) u r ≡ 0
 gone_weight true g t u r e = ap (taken_by u) (place_at-origin g t r ∙ ap (place_from g t) e)
 gone_weight false g t u r e = ap (given_by u) (place_at-origin g t r ∙ ap (place_from g t) e)
 
@@ -49,14 +54,16 @@ weight_small true g small u p = small.taken u p
 weight_small false g small u p = small.given u p
 
 -- where no pair is large
-pair_fits : (g : Graph) (t p q : ℕ) → is_large_round g t ≡ false → 0 < takes g t p → 0 < gives g t q → is_large_pair g t p q ≡ false
+pair_fits : (g : Graph) (t p q : ℕ) → is_large_round g t ≡ false → 0 < takes g t p → 0 < gives g t q
+    → is_large_pair g t p q ≡ false
 pair_fits g t p q e a b = elim (cases_Bool (is_large_pair g t p q)) [
   | inr h ↦ h
   | inl h ↦ absurd (false≢true (sym e ∙ any_from (λ (x : ℕ × ℕ). is_large_after g t x.0 (given_places g t)) (takes g t) (length g.places) p (taken_below g t p a) a
       (any_from (λ (y : ℕ × ℕ). is_large_pair g t p y.0) (gives g t) (length g.places) q (given_below g t q b) b h)))
 ]
 
-heavy_is : (t u w : ℕ) (ys : List (ℕ × ℕ)) → u ≢ t → PART.weight < w + weight_in u ys → is_heavy t ys (u, w) ≡ true
+heavy_is : (t u w : ℕ) (ys : List (ℕ × ℕ)) → u ≢ t → PART.weight < w + weight_in u ys
+    → is_heavy t ys (u, w) ≡ true
 heavy_is t u w ys other l = (λ i. not (ne_eqb u t other i) && lt-ltb PART.weight (w + weight_in u ys) l i)
 
 three_false : (a b c : Bool) → (a || b || c) ≡ false → (a ≡ false) × (b ≡ false) × (c ≡ false)
@@ -72,7 +79,9 @@ three_true false false true e = inr (inr refl)
 three_true false false false e = absurd (false≢true e)
 
 -- the weights of a transition together, where they aren't heavy
-sum_fits : (take : Bool) (g : Graph) (t p q u : ℕ) → is_heavy_at take g t p q ≡ false → weight take g u q ≤ PART.weight → u < length g.trans → u ≢ t → weight take g u p + weight take g u q ≤ PART.weight
+sum_fits : (take : Bool) (g : Graph) (t p q u : ℕ) → is_heavy_at take g t p q ≡ false
+    → weight take g u q ≤ PART.weight → u < length g.trans → u ≢ t
+    → weight take g u p + weight take g u q ≤ PART.weight
 sum_fits take g t p q u e fits low other = elim (cases_lt 0 (weight take g u p)) [
   | inr none ↦ omega (arith, none, fits)
   | inl some ↦ elim (cases_lt PART.weight (weight take g u p + weight take g u q)) [
@@ -82,7 +91,8 @@ sum_fits take g t p q u e fits low other = elim (cases_lt 0 (weight take g u p))
   ]
 ]
 
-not_heavy : (take : Bool) (g : Graph) (t p q : ℕ) → is_large_pair g t p q ≡ false → is_heavy_at take g t p q ≡ false
+not_heavy : (take : Bool) (g : Graph) (t p q : ℕ) → is_large_pair g t p q ≡ false
+    → is_heavy_at take g t p q ≡ false
 not_heavy true g t p q e = (three_false (ltb PART.weight (tokens_at g p + tokens_at g q)) (is_heavy_at true g t p q) (is_heavy_at false g t p q) e).1
 not_heavy false g t p q e = (three_false (ltb PART.weight (tokens_at g p + tokens_at g q)) (is_heavy_at true g t p q) (is_heavy_at false g t p q) e).2
 
@@ -102,7 +112,8 @@ tokens_is_place g p = go (place_at g p)
     go None h = absurd (omega (arith, h))
     go (Some x) h = refl
 
-past_at : (take : Bool) (g : Graph) (p : ℕ) → is_large_at g p ≡ false → list_any is_past (trans_round take g p) ≡ false
+past_at : (take : Bool) (g : Graph) (p : ℕ) → is_large_at g p ≡ false
+    → list_any is_past (trans_round take g p) ≡ false
 past_at true g p e = (three_false (ltb PART.weight (tokens_at g p)) (list_any is_past (trans_round true g p)) (list_any is_past (trans_round false g p)) e).1
 past_at false g p e = (three_false (ltb PART.weight (tokens_at g p)) (list_any is_past (trans_round true g p)) (list_any is_past (trans_round false g p)) e).2
 
@@ -111,7 +122,8 @@ module _ (g : Graph) (t : ℕ) (narrow : IsWeightlessPastLast g) (none : ¬ HasL
   not_large p left = elim (cases_Bool (is_large_at g p)) [ inr h ↦ h | inl h ↦ absurd (none (record { place = p; left = left_there g t p left; large = h })) ]
 
   -- the weights at a place that is left are within the limit
-  left_weight : (take : Bool) (u p : ℕ) → ((takes g t p ≡ 0) × (gives g t p ≡ 0)) ⊎ HasPair g t → weight take g u p ≤ PART.weight
+  left_weight : (take : Bool) (u p : ℕ) → ((takes g t p ≡ 0) × (gives g t p ≡ 0)) ⊎ HasPair g t
+      → weight take g u p ≤ PART.weight
   left_weight take u p stays = elim (cases_lt u (length g.trans)) [
     | inr past ↦ omega (arith, narrow_weight take g u p narrow past)
     | inl low ↦ elim (cases_lt PART.weight (weight take g u p)) [
@@ -131,7 +143,8 @@ module _ (g : Graph) (t : ℕ) (narrow : IsWeightlessPastLast g) (none : ¬ HasL
         ltb-false PART.weight (tokens_at g p) (three_false (ltb PART.weight (tokens_at g p)) (list_any is_past (trans_round true g p)) (list_any is_past (trans_round false g p)) large).0
   ]
 
-  weight_fits : (take : Bool) (u r : ℕ) (o : Origin) → (contracted-IsContraction g t).origin r ≡ o → IsOriginAt g t o → weight take (contracted g t) u r ≤ PART.weight
+  weight_fits : (take : Bool) (u r : ℕ) (o : Origin) → (contracted-IsContraction g t).origin r ≡ o
+      → IsOriginAt g t o → weight take (contracted g t) u r ≤ PART.weight
   weight_fits take u r NoPlace o f = omega (arith, gone_weight take g t u r o)
   weight_fits take u r (OldPlace p) o f = omega (arith, old_weight take g t u r p o, left_weight take u p (inl f))
   weight_fits take u r (PairPlace p q) o f =
@@ -149,7 +162,8 @@ module _ (g : Graph) (t : ℕ) (narrow : IsWeightlessPastLast g) (none : ¬ HasL
         | inr past ↦ omega (arith, is ∙ (λ i. cond (le-ltb u (length g.trans) past i) (cond (eqb u t) 0 s) 0))
       ]
 
-  tokens_fit : (r : ℕ) (o : Origin) → (contracted-IsContraction g t).origin r ≡ o → IsOriginAt g t o → tokens_at (contracted g t) r ≤ PART.weight
+  tokens_fit : (r : ℕ) (o : Origin) → (contracted-IsContraction g t).origin r ≡ o → IsOriginAt g t o
+      → tokens_at (contracted g t) r ≤ PART.weight
   tokens_fit r NoPlace o f = omega (arith, (contracted-IsContraction g t).tokens r ∙ ap (λ x. sum_over x (tokens_at g)) o)
   tokens_fit r (OldPlace p) o f = omega (arith, (contracted-IsContraction g t).tokens r ∙ ap (λ x. sum_over x (tokens_at g)) o, left_tokens p (inl f))
   tokens_fit r (PairPlace p q) o f =
@@ -180,7 +194,8 @@ none_large g t within l = elim (three_true (ltb PART.weight (tokens_at g l.place
         omega (arith, ltb-true PART.weight (weight take g f.number l.place) f.holds, weight_small take g within f.number l.place)
 
 -- the weight of another transition is the sum over the origin
-sum_weight : (take : Bool) (g : Graph) (t u r : ℕ) (o : Origin) → (contracted-IsContraction g t).origin r ≡ o → u < length g.trans → u ≢ t → weight take (contracted g t) u r ≡ sum_over o (λ p. weight take g u p)
+sum_weight : (take : Bool) (g : Graph) (t u r : ℕ) (o : Origin) → (contracted-IsContraction g t).origin r ≡ o
+    → u < length g.trans → u ≢ t → weight take (contracted g t) u r ≡ sum_over o (λ p. weight take g u p)
 sum_weight take g t u r NoPlace o low other = gone_weight take g t u r o
 sum_weight take g t u r (OldPlace p) o low other = old_weight take g t u r p o
 sum_weight take g t u r (PairPlace p q) o low other =
@@ -218,7 +233,9 @@ large_stays g t pure l within = elim (three_true (ltb PART.weight (tokens_at g l
         ]
 
 -- a heavy weight at a pair is too large
-heavy_large : (take : Bool) (g : Graph) (t r p q : ℕ) → (contracted-IsContraction g t).origin r ≡ PairPlace p q → is_heavy_at take g t p q ≡ true → IsWithinLimits (contracted g t) → ⊥
+heavy_large : (take : Bool) (g : Graph) (t r p q : ℕ)
+    → (contracted-IsContraction g t).origin r ≡ PairPlace p q → is_heavy_at take g t p q ≡ true
+    → IsWithinLimits (contracted g t) → ⊥
 heavy_large take g t r p q o e small =
     let f = any_at (is_heavy t (trans_round take g q)) (λ u. weight take g u p) (length g.trans) e in
     let u = f.number in
@@ -252,7 +269,8 @@ round_stays g t e small =
     ]
 
 -- too many arcs are past the limits
-pub many_stays : (g : Graph) (t : ℕ) → ltb PART.arcs (count_arcs (contracted g t)) ≡ true → ¬ IsWithinLimits (contracted g t)
+pub many_stays : (g : Graph) (t : ℕ) → ltb PART.arcs (count_arcs (contracted g t)) ≡ true
+    → ¬ IsWithinLimits (contracted g t)
 many_stays g t many within = omega (arith, ltb-true PART.arcs (count_arcs (contracted g t)) many, within.arcs)
 
 -- a count that stands still at the last number of 64 bits is as large

@@ -14,43 +14,55 @@ use Rattle.stg_contract.specs.inner.Tests.{is_in, is_only, are_ones, has_loop, i
 use Rattle.stg_contract.proofs.WeightLists.{Found, one_to, one_from, any_one, one_any, not_all_one, one_not_all, weight_in-weighted, live_where}
 
 -- what passes for all of a list passes at each number that has a weight
-pub all_at : (f : ℕ × ℕ → Bool) (w : ℕ → ℕ) (n k : ℕ) → list_all f (weighted n w) ≡ true → k < n → 0 < w k → f (k, w k) ≡ true
+pub all_at : (f : ℕ × ℕ → Bool) (w : ℕ → ℕ) (n k : ℕ) → list_all f (weighted n w) ≡ true → k < n → 0 < w k
+    → f (k, w k) ≡ true
 all_at f w n k e low some = elim (cases_Bool (f (k, w k))) [
   | inl h ↦ h
   | inr h ↦ absurd (false≢true (sym (one_not_all f (weighted n w) (one_from (λ x. f x ≡ false) w n 0 (record { number = k; low = omega arith; high = omega (arith, low); some = some; holds = h }))) ∙ e))
 ]
 
-pub not_all_at : (f : ℕ × ℕ → Bool) (w : ℕ → ℕ) (n : ℕ) → list_all f (weighted n w) ≡ false → Found (λ x. f x ≡ false) w 0 n
+-- what fails for one of a list fails at a number that has a weight
+pub not_all_at : (f : ℕ × ℕ → Bool) (w : ℕ → ℕ) (n : ℕ) → list_all f (weighted n w) ≡ false
+    → Found (λ x. f x ≡ false) w 0 n
 not_all_at f w n e = one_to (λ x. f x ≡ false) w n 0 (not_all_one f (weighted n w) e)
 
-pub any_at : (f : ℕ × ℕ → Bool) (w : ℕ → ℕ) (n : ℕ) → list_any f (weighted n w) ≡ true → Found (λ x. f x ≡ true) w 0 n
+-- what passes for one of a list passes at a number that has a weight
+pub any_at : (f : ℕ × ℕ → Bool) (w : ℕ → ℕ) (n : ℕ) → list_any f (weighted n w) ≡ true
+    → Found (λ x. f x ≡ true) w 0 n
 any_at f w n e = one_to (λ x. f x ≡ true) w n 0 (any_one f (weighted n w) e)
 
-pub any_from : (f : ℕ × ℕ → Bool) (w : ℕ → ℕ) (n k : ℕ) → k < n → 0 < w k → f (k, w k) ≡ true → list_any f (weighted n w) ≡ true
+-- and what passes at such a number passes for one of the list
+pub any_from : (f : ℕ × ℕ → Bool) (w : ℕ → ℕ) (n k : ℕ) → k < n → 0 < w k → f (k, w k) ≡ true
+    → list_any f (weighted n w) ≡ true
 any_from f w n k low some h = one_any f (weighted n w) (one_from (λ x. f x ≡ true) w n 0 (record { number = k; low = omega arith; high = omega (arith, low); some = some; holds = h }))
 
 -- where a weight is, there is a number for it
 pub taken_below : (g : Graph) (t p : ℕ) → 0 < takes g t p → p < length g.places
 taken_below g t p a = elim (cases_lt p (length g.places)) [ inl l ↦ l | inr past ↦ absurd (omega (arith, a, takes-past g t p past)) ]
 
+-- so it is where it is given
 pub given_below : (g : Graph) (t p : ℕ) → 0 < gives g t p → p < length g.places
 given_below g t p a = elim (cases_lt p (length g.places)) [ inl l ↦ l | inr past ↦ absurd (omega (arith, a, gives-past g t p past)) ]
 
+-- a live transition has a number below the next one
 pub live_below : (g : Graph) (u : ℕ) → IsTrans g u → u < length g.trans
 live_below g u live = elim (cases_lt u (length g.trans)) [ inl l ↦ l | inr past ↦ absurd (false≢true (sym (ap is_some (get_or_past g.trans u _ past)) ∙ live)) ]
 
+-- the test finds a loop
 pub loop_found : (g : Graph) (t : ℕ) → has_loop g t ≡ true → HasLoop g t
 loop_found g t e =
     let f = any_at (is_in (given_places g t)) (takes g t) (length g.places) e in
     let h = ltb-true 0 _ f.holds in
     record { place = f.number; taken = f.some; given = omega (arith, h, weight_in-weighted (gives g t) (length g.places) 0 f.number (omega arith) f.high) }
 
+-- and finds each
 pub loop_there : (g : Graph) (t : ℕ) → HasLoop g t → has_loop g t ≡ true
 loop_there g t l =
     let low = taken_below g t l.place l.taken in
     any_from (is_in (given_places g t)) (takes g t) (length g.places) l.place low l.taken
     (lt-ltb 0 _ (omega (arith, l.given, weight_in-weighted (gives g t) (length g.places) 0 l.place (omega arith) (omega (arith, low)))))
 
+-- so there is none where it finds none
 pub no_loop : (g : Graph) (t : ℕ) → has_loop g t ≡ false → HasLoop g t → ⊥
 no_loop g t e l = false≢true (sym e ∙ loop_there g t l)
 
@@ -74,6 +86,7 @@ heavy_at w n e =
       ],
     )
 
+-- the test finds an arc of a weight above 1
 pub weight_found : (g : Graph) (t : ℕ) → is_ordinary g t ≡ false → HasWeight g t
 weight_found g t e = elim (cases_Bool (are_ones (taken_places g t))) [
   | inl h ↦ let x = heavy_at (gives g t) (length g.places) (rw h at e) in record { place = x.0; above = inr x.1 }
@@ -101,7 +114,9 @@ pure_found g t loop single = record {
 }
 
 -- t alone has weights at the places that have one
-sole_true : (t n m : ℕ) (w : ℕ → ℕ → ℕ) (v : ℕ → ℕ) → list_all (λ (x : ℕ × ℕ). is_only t (weighted n (λ u. w u x.0))) (weighted m v) ≡ true → (u p : ℕ) → u < n → p < m → u ≢ t → 0 < v p → w u p ≡ 0
+sole_true : (t n m : ℕ) (w : ℕ → ℕ → ℕ) (v : ℕ → ℕ)
+    → list_all (λ (x : ℕ × ℕ). is_only t (weighted n (λ u. w u x.0))) (weighted m v) ≡ true → (u p : ℕ)
+    → u < n → p < m → u ≢ t → 0 < v p → w u p ≡ 0
 sole_true t n m w v e u p hu hp other some = elim (cases_lt 0 (w u p)) [
   | inl h ↦ absurd (other (eqb-true u t (all_at (λ x. x.0 == t) (λ u. w u p) n u (all_at (λ (x : ℕ × ℕ). is_only t (weighted n (λ u. w u x.0))) v m p e hp some) hu h)))
   | inr h ↦ omega (arith, h)
@@ -115,7 +130,8 @@ record Another (t n : ℕ) (w : ℕ → ℕ → ℕ) (v : ℕ → ℕ) : Type 0 
   weight : 0 < w trans place
   there : 0 < v place
 
-sole_false : (t n m : ℕ) (w : ℕ → ℕ → ℕ) (v : ℕ → ℕ) → list_all (λ (x : ℕ × ℕ). is_only t (weighted n (λ u. w u x.0))) (weighted m v) ≡ false → Another t n w v
+sole_false : (t n m : ℕ) (w : ℕ → ℕ → ℕ) (v : ℕ → ℕ)
+    → list_all (λ (x : ℕ × ℕ). is_only t (weighted n (λ u. w u x.0))) (weighted m v) ≡ false → Another t n w v
 sole_false t n m w v e =
     let f = not_all_at (λ (x : ℕ × ℕ). is_only t (weighted n (λ u. w u x.0))) v m e in
     let h = not_all_at (λ x. x.0 == t) (λ u. w u f.number) n f.holds in
@@ -128,15 +144,18 @@ sole_false t n m w v e =
       there = f.some;
     }
 
+-- the test finds the first type
 pub type1_found : (g : Graph) (t : ℕ) → is_type1 g t ≡ true → IsType1 g t
 type1_found g t e u p live other some = sole_true t (length g.trans) (length g.places) (takes g) (takes g t) e u p (live_below g u live) (taken_below g t p some) other some
 
+-- and finds it wherever it is
 pub not_type1 : (g : Graph) (t : ℕ) → IsWeightlessWhereRemoved g → is_type1 g t ≡ false → IsType1 g t → ⊥
-not_type1 g t bare e type1 =
+not_type1 g t weightless e type1 =
     let a = sole_false t (length g.trans) (length g.places) (takes g) (takes g t) e in
-    let live = live_where g a.trans (takes g a.trans a.place) a.weight (λ gone. (bare a.trans a.place a.below gone).0) in
+    let live = live_where g a.trans (takes g a.trans a.place) a.weight (λ gone. (weightless a.trans a.place a.below gone).0) in
     omega (arith, a.weight, type1 a.trans a.place live a.other a.there)
 
+-- the test finds the second type
 pub type2_found : (g : Graph) (t : ℕ) → is_type2 g t ≡ true → IsType2 g t
 type2_found g t e =
     let alone = both_first (list_all (λ (x : ℕ × ℕ). is_only t (giving_trans g x.0)) (given_places g t)) (list_any (is_empty g) (given_places g t)) e in
@@ -148,11 +167,12 @@ type2_found g t e =
       no_tokens = eqb-true (tokens_at g f.number) 0 f.holds;
     }
 
+-- and finds it wherever it is
 pub not_type2 : (g : Graph) (t : ℕ) → IsWeightlessWhereRemoved g → is_type2 g t ≡ false → IsType2 g t → ⊥
-not_type2 g t bare e type2 = elim (cases_Bool (list_all (λ (x : ℕ × ℕ). is_only t (giving_trans g x.0)) (given_places g t))) [
+not_type2 g t weightless e type2 = elim (cases_Bool (list_all (λ (x : ℕ × ℕ). is_only t (giving_trans g x.0)) (given_places g t))) [
   | inl h ↦ false≢true (sym (rw h at e) ∙ any_from (is_empty g) (gives g t) (length g.places) type2.empty (given_below g t type2.empty type2.after) type2.after (eq-eqb (tokens_at g type2.empty) 0 type2.no_tokens))
   | inr h ↦
       let a = sole_false t (length g.trans) (length g.places) (gives g) (gives g t) h in
-      let live = live_where g a.trans (gives g a.trans a.place) a.weight (λ gone. (bare a.trans a.place a.below gone).1) in
+      let live = live_where g a.trans (gives g a.trans a.place) a.weight (λ gone. (weightless a.trans a.place a.below gone).1) in
       omega (arith, a.weight, type2.alone a.trans a.place live a.other a.there)
 ]

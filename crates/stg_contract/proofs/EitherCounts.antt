@@ -27,7 +27,8 @@ length-filter_step f w m a = elim (cases_Bool (ltb 0 (w a))) [
   | inr h ↦ rw h (omega arith)
 ]
 
-length-weighted_step : (w : ℕ → ℕ) (m a : ℕ) → length (weighted_from w a (suc m)) ≡ cond (ltb 0 (w a)) 1 0 + length (weighted_from w (a + 1) m)
+length-weighted_step : (w : ℕ → ℕ) (m a : ℕ)
+    → length (weighted_from w a (suc m)) ≡ cond (ltb 0 (w a)) 1 0 + length (weighted_from w (a + 1) m)
 length-weighted_step w m a = elim (cases_Bool (ltb 0 (w a))) [ inl h ↦ rw h (omega arith) | inr h ↦ rw h (omega arith) ]
 
 -- a number that has a weight in one of two lists stands in the second, or in the first apart from it
@@ -48,7 +49,8 @@ either_step false v w y e = rw e (elim (cases_lt 0 v) [
   ]
 ])
 
-either_from : (t : ℕ) (v w : ℕ → ℕ) (ys : List (ℕ × ℕ)) (m a : ℕ) → ((k : ℕ) → a ≤ k → k < a + m → weight_in k ys ≡ w k)
+either_from : (t : ℕ) (v w : ℕ → ℕ) (ys : List (ℕ × ℕ)) (m a : ℕ)
+    → ((k : ℕ) → a ≤ k → k < a + m → weight_in k ys ≡ w k)
     → length (weighted_from (together t v w) a m) ≡ count_apart t ys (weighted_from v a m) + count_others t (weighted_from w a m)
 either_from t v w ys zero a same = refl
 either_from t v w ys (suc m) a same = omega (

@@ -18,7 +18,8 @@ use Rattle.stg_contract.specs.Calm.{IsCalm}
 use Rattle.stg_contract.proofs.Calm.{length-weighted_suc, length-weighted_less, sum_filter_suc, cond_less}
 
 -- and where one number alone may have more, there is at most one more
-weighted_one : (n : ℕ) (w v : ℕ → ℕ) (at : ℕ) → ((k : ℕ) → k ≢ at → v k ≤ w k) → length (weighted n v) ≤ length (weighted n w) + 1
+weighted_one : (n : ℕ) (w v : ℕ → ℕ) (at : ℕ) → ((k : ℕ) → k ≢ at → v k ≤ w k)
+    → length (weighted n v) ≤ length (weighted n w) + 1
 weighted_one zero w v at h = omega arith
 weighted_one (suc n) w v at h = elim (cases_eq n at) [
   | inl e ↦ omega (arith, length-weighted_suc n w, length-weighted_suc n v, length-weighted_less n w v (λ k l. h k (λ f. absurd (omega (arith, e, f, l)))))
@@ -38,7 +39,8 @@ total_le : (f h : ℕ → ℕ) (n : ℕ) → ((k : ℕ) → k < n → h k ≤ f 
 total_le f h zero b = omega arith
 total_le f h (suc n) b = omega (arith, total_le f h n (λ k l. b k (omega arith)), b n (omega arith))
 
-total_one : (f h : ℕ → ℕ) (at n : ℕ) → ((k : ℕ) → k ≢ at → h k ≤ f k) → h at ≤ f at + 1 → total h n ≤ total f n + 1
+total_one : (f h : ℕ → ℕ) (at n : ℕ) → ((k : ℕ) → k ≢ at → h k ≤ f k) → h at ≤ f at + 1
+    → total h n ≤ total f n + 1
 total_one f h at zero b one = omega arith
 total_one f h at (suc n) b one = elim (cases_eq n at) [
   | inl e ↦ omega (arith, total_le f h n (λ k l. b k (λ g. absurd (omega (arith, e, g, l)))), one, ap h e, ap f e)
@@ -57,11 +59,13 @@ abbrev arcs_at : List NetArc → ℕ → ℕ → ℕ
 arcs_at arcs trans p = arcs_along arcs false trans p + arcs_along arcs true trans p
 
 -- where the arc stands elsewhere, there are as many as before
-along_same : (a : NetArc) (arcs : List NetArc) (into : Bool) (trans p : ℕ) → ((t : ℕ) → connects into t p a ≡ false) → arcs_along (a ∷ arcs) into trans p ≤ arcs_along arcs into trans p
+along_same : (a : NetArc) (arcs : List NetArc) (into : Bool) (trans p : ℕ)
+    → ((t : ℕ) → connects into t p a ≡ false) → arcs_along (a ∷ arcs) into trans p ≤ arcs_along arcs into trans p
 along_same a arcs into trans p none =
     length-weighted_less trans (λ t. weight_of arcs into t p) (λ t. weight_of (a ∷ arcs) into t p) (λ t b. omega (arith, weight_of-cons into t p a arcs, share_none into t p a (none t)))
 
-along_one : (a : NetArc) (arcs : List NetArc) (into : Bool) (trans p : ℕ) → arcs_along (a ∷ arcs) into trans p ≤ arcs_along arcs into trans p + 1
+along_one : (a : NetArc) (arcs : List NetArc) (into : Bool) (trans p : ℕ)
+    → arcs_along (a ∷ arcs) into trans p ≤ arcs_along arcs into trans p + 1
 along_one a arcs into trans p =
     weighted_one trans (λ t. weight_of arcs into t p) (λ t. weight_of (a ∷ arcs) into t p) a.trans
     (λ t other. omega (arith, weight_of-cons into t p a arcs, share_none into t p a (false_from_ne_true _ (λ e. other (sym (connects_parts into t p a e).trans_is)))))
@@ -78,7 +82,8 @@ both_one a arcs trans p = elim (cases_Bool a.into) [
   | inr e ↦ omega (arith, along_same a arcs true trans p (other_way_none a true p (λ f. false≢true (sym e ∙ f))), along_one a arcs false trans p)
 ]
 
-both_same : (a : NetArc) (arcs : List NetArc) (trans p : ℕ) → p ≢ a.place → arcs_at (a ∷ arcs) trans p ≤ arcs_at arcs trans p
+both_same : (a : NetArc) (arcs : List NetArc) (trans p : ℕ) → p ≢ a.place
+    → arcs_at (a ∷ arcs) trans p ≤ arcs_at arcs trans p
 both_same a arcs trans p other = omega (arith, along_same a arcs false trans p (other_place_none a false p other), along_same a arcs true trans p (other_place_none a true p other))
 
 few_arcs : (arcs : List NetArc) (trans places : ℕ) → total (arcs_at arcs trans) places ≤ length arcs
@@ -106,7 +111,8 @@ initial_arcs n known net =
     let q : ℕ → Bool = λ p. is_some (place_at g p) in
     omega (arith, sum_total (count_arcs_at g) q (length g.places), total_le (arcs_at n.arcs trans) (count_arcs_at g) (length g.places) (λ p b. at p), few_arcs n.arcs trans (length g.places))
 
-weight_small : (n : NetLists) (into : Bool) (t p : ℕ) → IsNet n → IsWithin PART n → weight_of n.arcs into t p ≤ 1000000
+weight_small : (n : NetLists) (into : Bool) (t p : ℕ) → IsNet n → IsWithin PART n
+    → weight_of n.arcs into t p ≤ 1000000
 weight_small n into t p net within = elim (cases_lt 0 (weight_of n.arcs into t p)) [
   | inr none ↦ omega arith
   | inl some ↦
@@ -116,7 +122,8 @@ weight_small n into t p net within = elim (cases_lt 0 (weight_of n.arcs into t p
 ]
 
 -- an initial component is calm where its net has no structural auto-conflict
-pub calm-initial : (n : NetLists) (known : List ℕ) → IsNet n → IsWithin PART n → HasNoAutoConflict (graph_of n) → IsCalm (initial n known)
+pub calm-initial : (n : NetLists) (known : List ℕ) → IsNet n → IsWithin PART n
+    → HasNoAutoConflict (graph_of n) → IsCalm (initial n known)
 calm-initial n known net within apart = record {
   no_conflict = λ t u p a. apart t u p (record {
     rivals = let r = a.rivals in record {

@@ -169,7 +169,8 @@ module _ (g : Graph) (t : ℕ) where
   are_numbers Type2 r = refl
 
   -- two least ones are one
-  least_one : (x y : ℕ × ℕ) → AreLeastClashing (contracted g t) x.0 x.1 → AreLeastClashing (contracted g t) y.0 y.1 → x ≡ y
+  least_one : (x y : ℕ × ℕ) → AreLeastClashing (contracted g t) x.0 x.1
+      → AreLeastClashing (contracted g t) y.0 y.1 → x ≡ y
   least_one x y a b = both (a.least y.0 y.1 b.clashing) (b.least x.0 x.1 a.clashing)
     where
       both : (x.0 < y.0) ⊎ ((x.0 ≡ y.0) × (x.1 ≤ y.1)) → (y.0 < x.0) ⊎ ((y.0 ≡ x.0) × (y.1 ≤ x.1)) → x ≡ y

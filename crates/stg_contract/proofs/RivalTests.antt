@@ -9,6 +9,7 @@ use Rattle.stg_laws.specs.Deterministic.{AreRivals}
 use Rattle.stg_laws.proofs.Names.{named}
 use Rattle.stg_contract.specs.inner.Searches.{is_same_label, are_rivals, ordered_rivals}
 
+-- what is known is live
 pub known_live : (g : Graph) (u : ℕ) → has_signal_of g.known (full_name_at g u) ≡ true → IsTrans g u
 known_live g u = go (full_name_at g u)
   where
@@ -29,6 +30,7 @@ label_there x y e =
     let edges : x.edge ≡ y.edge = ap (λ (l : Label). l.edge) e in
     rw ((bytes_eq-Decides x.signal y.signal).1 signals) (rw edges (is_edge-itself y.edge))
 
+-- the test finds rivals
 pub rivals_found : (g : Graph) (u v : ℕ) → are_rivals g u v ≡ true → AreRivals g u v
 rivals_found g u v e =
     let a = and_parts _ _ e in
@@ -47,9 +49,11 @@ rivals_found g u v e =
       same = label_found x.name y.name (sym (λ i. is_same_label (x.has i) (y.has i)) ∙ a.1);
     }
 
+-- and finds all
 pub rivals_there : (g : Graph) (u v : ℕ) → AreRivals g u v → are_rivals g u v ≡ true
 rivals_there g u v r = (λ i. not (ne_eqb u v r.differ i) && r.t_known i && r.u_known i && is_same_label (r.t_has i) (r.u_has i)) ∙ label_there r.t_name r.u_name r.same
 
+-- rivals in the other order
 pub rivals_turned : (g : Graph) (u v : ℕ) → AreRivals g u v → AreRivals g v u
 rivals_turned g u v r = record {
   differ = λ e. r.differ (sym e);
@@ -68,6 +72,7 @@ pub record IsClashOf (g : Graph) (u v : ℕ) (y : ℕ × ℕ) : Type 0 where
   pub is : ((y.0 ≡ u) × (y.1 ≡ v)) ⊎ ((y.0 ≡ v) × (y.1 ≡ u))
   pub ascends : y.0 < y.1
 
+-- two numbers that are found are two rivals
 pub clash_found : (g : Graph) (u v : ℕ) (y : ℕ × ℕ) → ordered_rivals g u v ≡ Some y → IsClashOf g u v y
 clash_found g u v y e = elim (cases_Bool (are_rivals g u v)) [
   | inl h ↦ found (rivals_found g u v h) (rw h at e)
@@ -88,7 +93,9 @@ clash_found g u v y e = elim (cases_Bool (are_rivals g u v)) [
           | inr (inr l) ↦ record { rivals = r; is = inr (omega (arith, first, l), omega (arith, second, l)); ascends = omega (arith, first, second, l) }
         ]
 
-pub clash_there : (g : Graph) (u v : ℕ) → AreRivals g u v → u < v → (ordered_rivals g u v ≡ Some (u, v)) × (ordered_rivals g v u ≡ Some (u, v))
+-- and two rivals are found in both orders
+pub clash_there : (g : Graph) (u v : ℕ) → AreRivals g u v → u < v
+    → (ordered_rivals g u v ≡ Some (u, v)) × (ordered_rivals g v u ≡ Some (u, v))
 clash_there g u v r l =
     let low : min u v ≡ u = omega (arith, l) in
     let high : max u v ≡ v = omega (arith, l) in

@@ -22,7 +22,9 @@ pub record Found (P : ℕ × ℕ → Type 0) (w : ℕ → ℕ) (a m : ℕ) : Typ
   pub some : 0 < w number
   pub holds : P (number, w number)
 
-pub each_from : (P : ℕ × ℕ → Type 0) (w : ℕ → ℕ) (m a : ℕ) → ((k : ℕ) → a ≤ k → k < a + m → 0 < w k → P (k, w k)) → All P (weighted_from w a m)
+-- what holds of each number that has a weight holds of each element
+pub each_from : (P : ℕ × ℕ → Type 0) (w : ℕ → ℕ) (m a : ℕ)
+    → ((k : ℕ) → a ≤ k → k < a + m → 0 < w k → P (k, w k)) → All P (weighted_from w a m)
 each_from P w zero a h = All-nil P
 each_from P w (suc m) a h =
     let rest = each_from P w m (a + 1) (λ k l r. h k (omega (arith, l)) (omega (arith, r))) in
@@ -31,6 +33,7 @@ each_from P w (suc m) a h =
       | inr none ↦ rw (le-ltb 0 (w a) none) rest
     ]
 
+-- what holds of an element holds of a number that has a weight
 pub one_to : (P : ℕ × ℕ → Type 0) (w : ℕ → ℕ) (m a : ℕ) → One P (weighted_from w a m) → Found P w a m
 one_to P w zero a o = absurd o
 one_to P w (suc m) a o = elim (cases_lt 0 (w a)) [
@@ -41,10 +44,12 @@ one_to P w (suc m) a o = elim (cases_lt 0 (w a)) [
     later : Found P w (a + 1) m → Found P w a (suc m)
     later f = record { number = f.number; low = omega (arith, f.low); high = omega (arith, f.high); some = f.some; holds = f.holds }
 
-    first : (One P (weighted_from w (a + 1) m) → Found P w (a + 1) m) → 0 < w a → P (a, w a) ⊎ One P (weighted_from w (a + 1) m) → Found P w a (suc m)
+    first : (One P (weighted_from w (a + 1) m) → Found P w (a + 1) m) → 0 < w a
+        → P (a, w a) ⊎ One P (weighted_from w (a + 1) m) → Found P w a (suc m)
     first go some (inl p) = record { number = a; low = omega arith; high = omega arith; some = some; holds = p }
     first go some (inr o) = later (go o)
 
+-- and the other way round
 pub one_from : (P : ℕ × ℕ → Type 0) (w : ℕ → ℕ) (m a : ℕ) → Found P w a m → One P (weighted_from w a m)
 one_from P w zero a f = absurd (omega (arith, f.low, f.high))
 one_from P w (suc m) a f = elim (cases_eq f.number a) [
@@ -68,6 +73,7 @@ any_one f (x ∷ xs) e = elim (cases_Bool (f x)) [
   | inr h ↦ inr (any_one f xs (rw h at e))
 ]
 
+-- and where one passes, one is found
 pub one_any : {X : Type 0} (f : X → Bool) (xs : List X) → One (λ x. f x ≡ true) xs → list_any f xs ≡ true
 one_any f [] o = absurd o
 one_any f (x ∷ xs) (inl h) = rw h refl
@@ -76,6 +82,7 @@ one_any f (x ∷ xs) (inr o) = elim (cases_Bool (f x)) [
   | inr h ↦ rw h (one_any f xs o)
 ]
 
+-- where not all pass, one fails
 pub not_all_one : {X : Type 0} (f : X → Bool) (xs : List X) → list_all f xs ≡ false → One (λ x. f x ≡ false) xs
 not_all_one f [] e = absurd (false≢true (sym e))
 not_all_one f (x ∷ xs) e = elim (cases_Bool (f x)) [
@@ -83,6 +90,7 @@ not_all_one f (x ∷ xs) e = elim (cases_Bool (f x)) [
   | inr h ↦ inl h
 ]
 
+-- and where one fails, not all pass
 pub one_not_all : {X : Type 0} (f : X → Bool) (xs : List X) → One (λ x. f x ≡ false) xs → list_all f xs ≡ false
 one_not_all f [] o = absurd o
 one_not_all f (x ∷ xs) (inl h) = rw h refl
@@ -99,6 +107,7 @@ taken_is_place g t p = go (place_at g p)
     go None h = absurd (omega (arith, h))
     go (Some x) h = refl
 
+-- so has what gives to it
 pub given_is_place : (g : Graph) (t p : ℕ) → 0 < gives g t p → IsPlace g p
 given_is_place g t p = go (place_at g p)
   where
@@ -106,13 +115,17 @@ given_is_place g t p = go (place_at g p)
     go None h = absurd (omega (arith, h))
     go (Some x) h = refl
 
+-- the places from which t takes are live
 pub taken_live : (g : Graph) (t : ℕ) → ArePlaces g (taken_places g t)
 taken_live g t = each_from (λ (x : ℕ × ℕ). IsPlace g x.0) (takes g t) (length g.places) 0 (λ k l r some. taken_is_place g t k some)
 
+-- and those to which it gives
 pub given_live : (g : Graph) (t : ℕ) → ArePlaces g (given_places g t)
 given_live g t = each_from (λ (x : ℕ × ℕ). IsPlace g x.0) (gives g t) (length g.places) 0 (λ k l r some. given_is_place g t k some)
 
-pub live_later : (g : Graph) (x : ℕ × ℕ) (all rest : List (ℕ × ℕ)) → all ≡ x ∷ rest → ArePlaces g all → ArePlaces g rest
+-- so are those that are left of a list
+pub live_later : (g : Graph) (x : ℕ × ℕ) (all rest : List (ℕ × ℕ)) → all ≡ x ∷ rest → ArePlaces g all
+    → ArePlaces g rest
 live_later g x all rest e live = All-tail (λ (x : ℕ × ℕ). IsPlace g x.0) x rest (subst (ArePlaces g) e live)
 
 -- the weight that a list gives is the weight
@@ -142,14 +155,20 @@ weight_in-weighted w (suc m) a k l r = elim (cases_eq a k) [
 pub live_where : (g : Graph) (u : ℕ) (w : ℕ) → 0 < w → (is_some (full_name_at g u) ≡ false → w ≡ 0) → IsTrans g u
 live_where g u w some none = elim (cases_Bool (is_some (full_name_at g u))) [ inl h ↦ h | inr h ↦ absurd (omega (arith, some, none h)) ]
 
+-- the transitions that take from a place are live
 pub taking_live : (g : Graph) (p : ℕ) → IsWeightlessWhereRemoved g → AreTrans g (taking_trans g p)
-taking_live g p bare = each_from (λ (x : ℕ × ℕ). IsTrans g x.0) (λ t. takes g t p) (length g.trans) 0 (λ k l r some. live_where g k (takes g k p) some (λ gone. (bare k p (omega (arith, r)) gone).0))
+taking_live g p weightless = each_from (λ (x : ℕ × ℕ). IsTrans g x.0) (λ t. takes g t p) (length g.trans) 0 (λ k l r some. live_where g k (takes g k p) some (λ gone. (weightless k p (omega (arith, r)) gone).0))
 
+-- and those that give to it
 pub giving_live : (g : Graph) (p : ℕ) → IsWeightlessWhereRemoved g → AreTrans g (giving_trans g p)
-giving_live g p bare = each_from (λ (x : ℕ × ℕ). IsTrans g x.0) (λ t. gives g t p) (length g.trans) 0 (λ k l r some. live_where g k (gives g k p) some (λ gone. (bare k p (omega (arith, r)) gone).1))
+giving_live g p weightless = each_from (λ (x : ℕ × ℕ). IsTrans g x.0) (λ t. gives g t p) (length g.trans) 0 (λ k l r some. live_where g k (gives g k p) some (λ gone. (weightless k p (omega (arith, r)) gone).1))
 
-pub trans_later : (g : Graph) (x : ℕ × ℕ) (all rest : List (ℕ × ℕ)) → all ≡ x ∷ rest → AreTrans g all → AreTrans g rest
+-- so are those that are left of a list
+pub trans_later : (g : Graph) (x : ℕ × ℕ) (all rest : List (ℕ × ℕ)) → all ≡ x ∷ rest → AreTrans g all
+    → AreTrans g rest
 trans_later g x all rest e live = All-tail (λ (x : ℕ × ℕ). IsTrans g x.0) x rest (subst (AreTrans g) e live)
 
-pub trans_first : (g : Graph) (x : ℕ × ℕ) (all rest : List (ℕ × ℕ)) → all ≡ x ∷ rest → AreTrans g all → IsTrans g x.0
+-- and the first one
+pub trans_first : (g : Graph) (x : ℕ × ℕ) (all rest : List (ℕ × ℕ)) → all ≡ x ∷ rest → AreTrans g all
+    → IsTrans g x.0
 trans_first g x all rest e live = All-head (λ (x : ℕ × ℕ). IsTrans g x.0) x rest (subst (AreTrans g) e live)

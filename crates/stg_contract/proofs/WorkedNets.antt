@@ -17,26 +17,32 @@ use Rattle.stg_net.proofs.Edges.{is_edge-itself}
 use Rattle.stg_contract.specs.inner.Worked.{input, full_name, arc, net, all_pairs, names_differ, trans_differ, is_arc, stands_before, are_labels, are_arcs}
 
 -- what a test finds of each holds of each
-each : {X : Type 0} (P : X → Type 0) (test : X → Bool) → ((x : X) → test x ≡ true → P x) → (xs : List X) → list_all test xs ≡ true → All P xs
+each : {X : Type 0} (P : X → Type 0) (test : X → Bool) → ((x : X) → test x ≡ true → P x) → (xs : List X)
+    → list_all test xs ≡ true → All P xs
 each P test sound [] met = All-nil _
 each P test sound (x ∷ xs) met =
     let parts = and_parts (test x) (list_all test xs) met in
     All-cons P x xs (sound x parts.0) (each P test sound xs parts.1)
 
 -- what a test finds of each, of what is made of it
-each_made : {X Y : Type 0} (P : Y → Type 0) (f : X → Y) (test : X → Bool) → ((x : X) → test x ≡ true → P (f x)) → (xs : List X) → list_all test xs ≡ true → All P (map f xs)
+each_made : {X Y : Type 0} (P : Y → Type 0) (f : X → Y) (test : X → Bool)
+    → ((x : X) → test x ≡ true → P (f x)) → (xs : List X) → list_all test xs ≡ true → All P (map f xs)
 each_made P f test sound [] met = All-nil _
 each_made P f test sound (x ∷ xs) met =
     let parts = and_parts (test x) (list_all test xs) met in
     All-cons P (f x) (map f xs) (sound x parts.0) (each_made P f test sound xs parts.1)
 
-each_pair : {X Y : Type 0} (R : Y → Y → Type 0) (f : X → Y) (test : X → X → Bool) → ((x y : X) → test x y ≡ true → R (f x) (f y)) → (xs : List X) → all_pairs test xs ≡ true → AllPairs R (map f xs)
+each_pair : {X Y : Type 0} (R : Y → Y → Type 0) (f : X → Y) (test : X → X → Bool)
+    → ((x y : X) → test x y ≡ true → R (f x) (f y)) → (xs : List X) → all_pairs test xs ≡ true
+    → AllPairs R (map f xs)
 each_pair R f test sound [] met = λ i j d lt below. absurd (omega arith)
 each_pair R f test sound (x ∷ xs) met =
     let parts = and_parts (list_all (test x) xs) (all_pairs test xs) met in
     AllPairs-cons R (f x) (map f xs) (each_made (R (f x)) f (test x) (sound x) xs parts.0) (each_pair R f test sound xs parts.1)
 
-same_pairs : (R : NetArc → NetArc → Type 0) (test : NetArc → NetArc → Bool) → ((a b : NetArc) → test a b ≡ true → R a b) → (xs : List NetArc) → all_pairs test xs ≡ true → AllPairs R xs
+same_pairs : (R : NetArc → NetArc → Type 0) (test : NetArc → NetArc → Bool)
+    → ((a b : NetArc) → test a b ≡ true → R a b) → (xs : List NetArc) → all_pairs test xs ≡ true
+    → AllPairs R xs
 same_pairs R test sound [] met = λ i j d lt below. absurd (omega arith)
 same_pairs R test sound (x ∷ xs) met =
     let parts = and_parts (list_all (test x) xs) (all_pairs test xs) met in
@@ -58,7 +64,8 @@ trans_apart (s, e, i) (t, f, j) met same =
 arcs_before : (a b : NetArc) → stands_before a b ≡ true → IsBefore a b
 arcs_before a b met = in_order a.place b.place a.trans b.trans a.into b.into met
   where
-    in_order : (p q t u : ℕ) (a b : Bool) → (nat_lt p q || ((p == q) && (nat_lt t u || ((t == u) && (not a && b))))) ≡ true
+    in_order : (p q t u : ℕ) (a b : Bool)
+        → (nat_lt p q || ((p == q) && (nat_lt t u || ((t == u) && (not a && b))))) ≡ true
         → (p < q) ⊎ ((p ≡ q) × ((t < u) ⊎ ((t ≡ u) × ((a ≡ false) × (b ≡ true)))))
     in_order p q t u true true met = grind (arith, nat_tests)
     in_order p q t u true false met = grind (arith, nat_tests)
@@ -143,7 +150,8 @@ module _ (names : List (List ℕ)) (trans : List (ℕ × Edge × ℕ)) (tokens :
   }
 
 -- nets with equal lists are equal
-pub same_net : (a b : NetLists) → a.signals ≡ b.signals → a.trans ≡ b.trans → a.tokens ≡ b.tokens → a.arcs ≡ b.arcs → a ≡ b
+pub same_net : (a b : NetLists) → a.signals ≡ b.signals → a.trans ≡ b.trans → a.tokens ≡ b.tokens
+    → a.arcs ≡ b.arcs → a ≡ b
 same_net a b signals trans tokens arcs = λ i. record { signals = signals i; trans = trans i; tokens = tokens i; arcs = arcs i }
 
 -- the known signals are there

@@ -1,4 +1,4 @@
--- What the functions within the crate ensure: tests, searches and counts over the lists that walks give.
+-- What private functions ensure: tests, searches and counts over the lists that walks give.
 pub mod Weights
 pub mod Tests
 pub mod Searches

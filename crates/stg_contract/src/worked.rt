@@ -61,7 +61,7 @@ fn make_net(
 ) -> Result<Net, NoMemory>
     requires labels { worked.are_labels (worked.texts names.now) trans.now ≡ true }
     requires arcs { worked.are_arcs (length trans.now) tokens.now arcs.now ≡ true }
-    ensures { IfOk result (λ n. n ≡ worked.net (worked.texts names.now) trans.now tokens.now arcs.now) }
+    ensures { IfOk result (λ n. n ≡ worked.lent_net names.now trans.now tokens.now arcs.now) }
 {
     Ok(Net::of(
         make_signals(alloc, names)?,
@@ -122,7 +122,7 @@ pub fn verdict_on(editor: &Editor, t: u32) -> Option<Verdict> {
 
 /// Contracts a transition where it is a dummy and its verdict allows it, and tells whether it did.
 pub fn contract_told(editor: &mut Editor, t: u32) -> Result<bool, NoMemory>
-    ensures { IfOk result (λ done. IsTrue done → length editor.new.past ≡ length editor.old.past + 1) }
+    ensures { IfOk result (λ done. IsTrue done → worked.MadeEdits editor.old editor.new 1) }
 {
     if !editor.is_trans(t) || !editor.is_dummy(t) {
         return Ok(false);
@@ -144,7 +144,7 @@ pub fn contract_told(editor: &mut Editor, t: u32) -> Result<bool, NoMemory>
 /// Contracts each of these transitions in order, as far as it may be contracted, and tells whether
 /// each was.
 pub fn contract_each(editor: &mut Editor, trans: &[u32]) -> Result<bool, NoMemory>
-    ensures { IfOk result (λ done. IsTrue done → length editor.new.past ≡ length editor.old.past + length trans.now) }
+    ensures { IfOk result (λ d. IsTrue d → worked.MadeEdits editor.old editor.new (length trans.now)) }
 {
     for t in trans {
         if !contract_told(editor, *t)? {
@@ -156,7 +156,7 @@ pub fn contract_each(editor: &mut Editor, trans: &[u32]) -> Result<bool, NoMemor
 
 /// Deletes a place, where it is live, and tells whether it was.
 pub fn drop_live(editor: &mut Editor, p: u32) -> Result<bool, NoMemory>
-    ensures { IfOk result (λ done. IsTrue done → length editor.new.past ≡ length editor.old.past + 1) }
+    ensures { IfOk result (λ done. IsTrue done → worked.MadeEdits editor.old editor.new 1) }
 {
     if !editor.is_place(p) {
         return Ok(false);

@@ -28,7 +28,8 @@ count_apart t ys xs = length (filter (is_apart t ys) xs)
 -- how many transitions but t have an arc of one direction at p or at q
 abbrev pub count_either : Bool → Graph → ℕ → ℕ → ℕ → ℕ
 count_either take g t p q =
-    length (weighted (length g.trans) (λ u. if u == t then 0 else weight take g u p + weight take g u q))
+    let both : ℕ → ℕ = λ u. if u == t then 0 else weight take g u p + weight take g u q in
+    length (weighted (length g.trans) both)
 
 -- how many arcs the pairs of p with each of these places have
 abbrev pub arcs_with_each : Graph → ℕ → ℕ → List (ℕ × ℕ) → ℕ

@@ -77,7 +77,8 @@ least_round g t = least_before g (given_places g t) None (taken_places g t)
 abbrev pub least_left_below : Graph → ℕ → Option (ℕ × ℕ) → ℕ → Option (ℕ × ℕ)
 least_left_below g t least zero = least
 least_left_below g t least (suc n) =
-    if is_left g t n then least_between g n (least_left_below g t least n) n else least_left_below g t least n
+    let below = least_left_below g t least n in
+    if is_left g t n then least_between g n below n else below
 
 -- the least of these two and the takers of one place that is left
 abbrev pub least_at_left : Graph → ℕ → Option (ℕ × ℕ) → Option (ℕ × ℕ)

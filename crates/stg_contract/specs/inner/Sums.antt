@@ -21,7 +21,8 @@ has_many_tokens g p q = nat_lt PART.weight (tokens_at g p + tokens_at g q)
 
 -- whether tokens or weights of the two places are together past the limit
 abbrev pub is_large_pair : Graph → ℕ → ℕ → ℕ → Bool
-is_large_pair g t p q = has_many_tokens g p q || is_heavy_at true g t p q || is_heavy_at false g t p q
+is_large_pair g t p q =
+    has_many_tokens g p q || is_heavy_at true g t p q || is_heavy_at false g t p q
 
 -- whether that is so of p with one of these places
 abbrev pub is_large_after : Graph → ℕ → ℕ → List (ℕ × ℕ) → Bool
@@ -29,7 +30,8 @@ is_large_after g t p qs = list_any (λ (y : ℕ × ℕ). is_large_pair g t p y.0
 
 -- whether that is so of a pair round t
 abbrev pub is_large_round : Graph → ℕ → Bool
-is_large_round g t = list_any (λ (x : ℕ × ℕ). is_large_after g t x.0 (given_places g t)) (taken_places g t)
+is_large_round g t =
+    list_any (λ (x : ℕ × ℕ). is_large_after g t x.0 (given_places g t)) (taken_places g t)
 
 -- whether the weight is past the limit
 abbrev pub is_past : ℕ × ℕ → Bool
@@ -41,7 +43,8 @@ has_past xs = list_any is_past xs
 
 -- whether the tokens of p or a weight at it are past the limit
 abbrev pub is_large_at : Graph → ℕ → Bool
-is_large_at g p = nat_lt PART.weight (tokens_at g p) || has_past (trans_round true g p) || has_past (trans_round false g p)
+is_large_at g p =
+    nat_lt PART.weight (tokens_at g p) || has_past (trans_round true g p) || has_past (trans_round false g p)
 
 -- a place that is left has tokens or a weight past the limit
 pub record HasLargePlace (g : Graph) (t : ℕ) : Type 0 where

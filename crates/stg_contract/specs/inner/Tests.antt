@@ -49,7 +49,8 @@ is_type1 g t = list_all (is_sole_taker g t) (taken_places g t)
 
 -- whether t alone gives to the places after it, and one of these is empty
 abbrev pub is_type2 : Graph → ℕ → Bool
-is_type2 g t = list_all (is_sole_giver g t) (given_places g t) && list_any (is_empty g) (given_places g t)
+is_type2 g t =
+    list_all (is_sole_giver g t) (given_places g t) && list_any (is_empty g) (given_places g t)
 
 -- whether p is live and stays, as it isn't touched
 abbrev pub is_kept : Graph → ℕ → ℕ → Bool
@@ -57,7 +58,8 @@ is_kept g t p = is_some (place_at g p) && not (is_touched g t p)
 
 -- whether p is touched and vanishes, as t gives to nothing or takes from nothing
 abbrev pub vanishes : Graph → ℕ → ℕ → Bool
-vanishes g t p = is_touched g t p && (is_nothing (taken_places g t) || is_nothing (given_places g t))
+vanishes g t p =
+    is_touched g t p && (is_nothing (taken_places g t) || is_nothing (given_places g t))
 
 -- whether p is live and is kept or stands in a pair
 abbrev pub is_left : Graph → ℕ → ℕ → Bool

@@ -1,5 +1,5 @@
 -- The nets of the tests, given by tables, and a test that computes whether they are nets.
-use Rattle.std.specs.Prelude.{◌==◌, ◌&&◌, ◌||◌, ℕ, Bool, true, not, nat_lt, nat_le, List, [], ◌∷◌, map, length}
+use Rattle.std.specs.Prelude.{◌≡◌, ◌==◌, ◌+◌, ◌&&◌, ◌||◌, ℕ, Bool, true, not, nat_lt, nat_le, List, [], ◌∷◌, map, length}
 use Rattle.std.specs.List.{list_all}
 use Rattle.std.specs.Str.{bytes_eq}
 use Rattle.std.specs.Borrow.{Bor}
@@ -10,6 +10,7 @@ use Rattle.stg_net.specs.declared.trans.Edge.{Edge}
 use Rattle.stg_net.specs.declared.trans.TransName.{TransName}
 use Rattle.stg_net.specs.declared.arc.NetArc.{NetArc}
 use Rattle.stg_net.specs.Net.{NetLists, is_edge}
+use Rattle.stg_edit.specs.Editing.{Editing}
 
 -- the input of this name
 abbrev pub input : List ℕ → Signal
@@ -29,7 +30,20 @@ texts names = map (λ name. name.now) names
 
 -- the net of these tables
 abbrev pub net : List (List ℕ) → List (ℕ × Edge × ℕ) → List ℕ → List (ℕ × ℕ × Bool × ℕ) → NetLists
-net names trans tokens arcs = record { signals = map input names; trans = map full_name trans; tokens = tokens; arcs = map arc arcs }
+net names trans tokens arcs = record {
+  signals = map input names;
+  trans = map full_name trans;
+  tokens = tokens;
+  arcs = map arc arcs;
+}
+
+-- the net of these tables, where the names are lent
+abbrev pub lent_net : List (Bor (List ℕ)) → List (ℕ × Edge × ℕ) → List ℕ → List (ℕ × ℕ × Bool × ℕ) → NetLists
+lent_net names trans tokens arcs = net (texts names) trans tokens arcs
+
+-- so many edits were made
+abbrev pub MadeEdits : Editing → Editing → ℕ → Type 0
+MadeEdits old new edits = length new.past ≡ length old.past + edits
 
 -- whether a test is met by each and each later one
 abbrev pub all_pairs : {X : Type 0} → (X → X → Bool) → List X → Bool
@@ -46,7 +60,8 @@ trans_differ (s, e, i) (t, f, j) = not (s == t) || (not (is_edge e f) || not (i 
 
 -- whether the ends of an arc are there, and its weight is within the limits
 abbrev pub is_arc : ℕ → ℕ → NetArc → Bool
-is_arc places trans a = nat_lt a.place places && (nat_lt a.trans trans && (nat_lt 0 a.weight && nat_le a.weight PART.weight))
+is_arc places trans a =
+    nat_lt a.place places && (nat_lt a.trans trans && (nat_lt 0 a.weight && nat_le a.weight PART.weight))
 
 -- whether an arc stands before another
 abbrev pub stands_before : NetArc → NetArc → Bool

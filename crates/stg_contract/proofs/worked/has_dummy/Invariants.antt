@@ -1,4 +1,4 @@
-use Rattle.std.proofs.Common.{◌≡◌, ◌<◌, ℕ}
+use Rattle.std.proofs.Common.{◌<◌, ℕ}
 use Rattle.stg_net.specs.Graph.{IsDummy}
 use Rattle.stg_contract.proofs.worked.has_dummy.Given as goal
 
