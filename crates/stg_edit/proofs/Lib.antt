@@ -20,4 +20,3 @@ pub mod Replacing
 pub mod RowMerge
 pub mod RowStep
 pub mod SizeLoops
-pub mod WorkedNets

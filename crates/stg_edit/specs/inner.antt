@@ -9,4 +9,3 @@ pub mod RowMerge
 pub mod Sizes
 pub mod Table
 pub mod View
-pub mod WorkedNets

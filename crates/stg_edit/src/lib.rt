@@ -12,8 +12,6 @@ mod size;
 #[cfg(test)]
 mod tests;
 mod wear;
-#[cfg(test)]
-mod worked;
 
 pub use editor::Editor;
 pub use stg_arena::Walk;
