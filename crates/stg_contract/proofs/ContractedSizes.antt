@@ -15,7 +15,7 @@ use Rattle.stg_laws.proofs.Origins.{Origin, NoPlace, OldPlace, PairPlace, sum_ov
 use Rattle.stg_laws.proofs.ContractedOrigins.{contracted-IsContraction, place_from, place_at-origin, pairs_around}
 use Rattle.stg_laws.specs.Secure.{IsPureOrdinary}
 use Rattle.stg_contract.specs.Verdicts.{IsWithinLimits}
-use Rattle.stg_contract.specs.inner.Weights.{weight, trans_round, weight_in}
+use Rattle.stg_contract.specs.inner.Weights.{arc_weight, trans_round, weight_in}
 use Rattle.stg_contract.specs.inner.Sums.{is_heavy, is_heavy_at, is_large_pair, is_large_after, is_large_round, is_past, is_large_at, HasLargePlace}
 use Rattle.stg_contract.proofs.WeightLists.{weight_in-weighted, taken_is_place, given_is_place}
 use Rattle.stg_contract.proofs.DummyTests.{any_at, any_from, taken_below, given_below}
@@ -34,22 +34,22 @@ each_other-at g t f u = elim (cases_lt u (length g.trans)) [
 -- the weight of a new place
 pair_weight : (take : Bool) (g : Graph) (t u r p q : ℕ)
     → (contracted-IsContraction g t).origin r ≡ PairPlace p q
-    → weight take (contracted g t) u r ≡ cond (ltb u (length g.trans)) (cond (eqb u t) 0 (weight take g u p + weight take g u q)) 0
+    → arc_weight take (contracted g t) u r ≡ cond (ltb u (length g.trans)) (cond (eqb u t) 0 (arc_weight take g u p + arc_weight take g u q)) 0
 pair_weight true g t u r p q e = ap (taken_by u) (place_at-origin g t r ∙ ap (place_from g t) e) ∙ each_other-at g t (λ u. takes g u p + takes g u q) u
 pair_weight false g t u r p q e = ap (given_by u) (place_at-origin g t r ∙ ap (place_from g t) e) ∙ each_other-at g t (λ u. gives g u p + gives g u q) u
 
 -- the weight of a place that stayed
 old_weight : (take : Bool) (g : Graph) (t u r p : ℕ) → (contracted-IsContraction g t).origin r ≡ OldPlace p
-    → weight take (contracted g t) u r ≡ weight take g u p
+    → arc_weight take (contracted g t) u r ≡ arc_weight take g u p
 old_weight true g t u r p e = ap (taken_by u) (place_at-origin g t r ∙ ap (place_from g t) e)
 old_weight false g t u r p e = ap (given_by u) (place_at-origin g t r ∙ ap (place_from g t) e)
 
 gone_weight : (take : Bool) (g : Graph) (t u r : ℕ) → (contracted-IsContraction g t).origin r ≡ NoPlace
-    → weight take (contracted g t) u r ≡ 0
+    → arc_weight take (contracted g t) u r ≡ 0
 gone_weight true g t u r e = ap (taken_by u) (place_at-origin g t r ∙ ap (place_from g t) e)
 gone_weight false g t u r e = ap (given_by u) (place_at-origin g t r ∙ ap (place_from g t) e)
 
-weight_small : (take : Bool) (g : Graph) → IsWithinLimits g → (u p : ℕ) → weight take g u p ≤ PART.weight
+weight_small : (take : Bool) (g : Graph) → IsWithinLimits g → (u p : ℕ) → arc_weight take g u p ≤ PART.weight
 weight_small true g small u p = small.taken u p
 weight_small false g small u p = small.given u p
 
@@ -80,14 +80,14 @@ three_true false false false e = absurd (false≢true e)
 
 -- the weights of a transition together, where they aren't heavy
 sum_fits : (take : Bool) (g : Graph) (t p q u : ℕ) → is_heavy_at take g t p q ≡ false
-    → weight take g u q ≤ PART.weight → u < length g.trans → u ≢ t
-    → weight take g u p + weight take g u q ≤ PART.weight
-sum_fits take g t p q u e fits low other = elim (cases_lt 0 (weight take g u p)) [
+    → arc_weight take g u q ≤ PART.weight → u < length g.trans → u ≢ t
+    → arc_weight take g u p + arc_weight take g u q ≤ PART.weight
+sum_fits take g t p q u e fits low other = elim (cases_lt 0 (arc_weight take g u p)) [
   | inr none ↦ omega (arith, none, fits)
-  | inl some ↦ elim (cases_lt PART.weight (weight take g u p + weight take g u q)) [
+  | inl some ↦ elim (cases_lt PART.weight (arc_weight take g u p + arc_weight take g u q)) [
     | inr h ↦ h
-    | inl h ↦ absurd (false≢true (sym e ∙ any_from (is_heavy t (trans_round take g q)) (λ u. weight take g u p) (length g.trans) u low some
-        (heavy_is t u (weight take g u p) (trans_round take g q) other (omega (arith, h, weight_in-weighted (λ u. weight take g u q) (length g.trans) 0 u (omega arith) (omega (arith, low)))))))
+    | inl h ↦ absurd (false≢true (sym e ∙ any_from (is_heavy t (trans_round take g q)) (λ u. arc_weight take g u p) (length g.trans) u low some
+        (heavy_is t u (arc_weight take g u p) (trans_round take g q) other (omega (arith, h, weight_in-weighted (λ u. arc_weight take g u q) (length g.trans) 0 u (omega arith) (omega (arith, low)))))))
   ]
 ]
 
@@ -97,11 +97,11 @@ not_heavy true g t p q e = (three_false (ltb PART.weight (tokens_at g p + tokens
 not_heavy false g t p q e = (three_false (ltb PART.weight (tokens_at g p + tokens_at g q)) (is_heavy_at true g t p q) (is_heavy_at false g t p q) e).2
 
 -- a number for the transitions past the last one
-narrow_weight : (take : Bool) (g : Graph) (u p : ℕ) → IsWeightlessPastLast g → length g.trans ≤ u → weight take g u p ≡ 0
+narrow_weight : (take : Bool) (g : Graph) (u p : ℕ) → IsWeightlessPastLast g → length g.trans ≤ u → arc_weight take g u p ≡ 0
 narrow_weight true g u p narrow past = (narrow u p past).0
 narrow_weight false g u p narrow past = (narrow u p past).1
 
-weight_is_place : (take : Bool) (g : Graph) (u p : ℕ) → 0 < weight take g u p → IsPlace g p
+weight_is_place : (take : Bool) (g : Graph) (u p : ℕ) → 0 < arc_weight take g u p → IsPlace g p
 weight_is_place true g u p some = taken_is_place g u p some
 weight_is_place false g u p some = given_is_place g u p some
 
@@ -123,15 +123,15 @@ module _ (g : Graph) (t : ℕ) (narrow : IsWeightlessPastLast g) (none : ¬ HasL
 
   -- the weights at a place that is left are within the limit
   left_weight : (take : Bool) (u p : ℕ) → ((takes g t p ≡ 0) × (gives g t p ≡ 0)) ⊎ HasPair g t
-      → weight take g u p ≤ PART.weight
+      → arc_weight take g u p ≤ PART.weight
   left_weight take u p stays = elim (cases_lt u (length g.trans)) [
     | inr past ↦ omega (arith, narrow_weight take g u p narrow past)
-    | inl low ↦ elim (cases_lt PART.weight (weight take g u p)) [
+    | inl low ↦ elim (cases_lt PART.weight (arc_weight take g u p)) [
       | inr fits ↦ fits
       | inl h ↦
-          let some : 0 < weight take g u p = omega (arith, h) in
+          let some : 0 < arc_weight take g u p = omega (arith, h) in
           absurd (false≢true (sym (past_at take g p (not_large p (record { live = weight_is_place take g u p some; stays = stays })))
-          ∙ any_from is_past (λ u. weight take g u p) (length g.trans) u low some (lt-ltb PART.weight (weight take g u p) h)))
+          ∙ any_from is_past (λ u. arc_weight take g u p) (length g.trans) u low some (lt-ltb PART.weight (arc_weight take g u p) h)))
     ]
   ]
 
@@ -144,11 +144,11 @@ module _ (g : Graph) (t : ℕ) (narrow : IsWeightlessPastLast g) (none : ¬ HasL
   ]
 
   weight_fits : (take : Bool) (u r : ℕ) (o : Origin) → (contracted-IsContraction g t).origin r ≡ o
-      → IsOriginAt g t o → weight take (contracted g t) u r ≤ PART.weight
+      → IsOriginAt g t o → arc_weight take (contracted g t) u r ≤ PART.weight
   weight_fits take u r NoPlace o f = omega (arith, gone_weight take g t u r o)
   weight_fits take u r (OldPlace p) o f = omega (arith, old_weight take g t u r p o, left_weight take u p (inl f))
   weight_fits take u r (PairPlace p q) o f =
-      let s = weight take g u p + weight take g u q in
+      let s = arc_weight take g u p + arc_weight take g u q in
       let is = pair_weight take g t u r p q o in
       elim (cases_lt u (length g.trans)) [
         | inl low ↦ elim (cases_eq u t) [
@@ -190,18 +190,18 @@ none_large g t within l = elim (three_true (ltb PART.weight (tokens_at g l.place
   where
     past : (take : Bool) → list_any is_past (trans_round take g l.place) ≡ true → ⊥
     past take e =
-        let f = any_at is_past (λ u. weight take g u l.place) (length g.trans) e in
-        omega (arith, ltb-true PART.weight (weight take g f.number l.place) f.holds, weight_small take g within f.number l.place)
+        let f = any_at is_past (λ u. arc_weight take g u l.place) (length g.trans) e in
+        omega (arith, ltb-true PART.weight (arc_weight take g f.number l.place) f.holds, weight_small take g within f.number l.place)
 
 -- the weight of another transition is the sum over the origin
 sum_weight : (take : Bool) (g : Graph) (t u r : ℕ) (o : Origin) → (contracted-IsContraction g t).origin r ≡ o
-    → u < length g.trans → u ≢ t → weight take (contracted g t) u r ≡ sum_over o (λ p. weight take g u p)
+    → u < length g.trans → u ≢ t → arc_weight take (contracted g t) u r ≡ sum_over o (λ p. arc_weight take g u p)
 sum_weight take g t u r NoPlace o low other = gone_weight take g t u r o
 sum_weight take g t u r (OldPlace p) o low other = old_weight take g t u r p o
 sum_weight take g t u r (PairPlace p q) o low other =
-    pair_weight take g t u r p q o ∙ (λ i. cond (lt-ltb u (length g.trans) low i) (cond (ne_eqb u t other i) 0 (weight take g u p + weight take g u q)) 0)
+    pair_weight take g t u r p q o ∙ (λ i. cond (lt-ltb u (length g.trans) low i) (cond (ne_eqb u t other i) 0 (arc_weight take g u p + arc_weight take g u q)) 0)
 
-thin_weight : (take : Bool) (g : Graph) (t p : ℕ) → IsPureOrdinary g t → weight take g t p ≤ 1
+thin_weight : (take : Bool) (g : Graph) (t p : ℕ) → IsPureOrdinary g t → arc_weight take g t p ≤ 1
 thin_weight true g t p pure = pure.takes_one p
 thin_weight false g t p pure = pure.gives_one p
 
@@ -218,16 +218,16 @@ large_stays g t pure l within = elim (three_true (ltb PART.weight (tokens_at g l
 
     past : (take : Bool) → list_any is_past (trans_round take g l.place) ≡ true → ⊥
     past take e =
-        let f = any_at is_past (λ u. weight take g u l.place) (length g.trans) e in
+        let f = any_at is_past (λ u. arc_weight take g u l.place) (length g.trans) e in
         let u = f.number in
-        let high = ltb-true PART.weight (weight take g u l.place) f.holds in
+        let high = ltb-true PART.weight (arc_weight take g u l.place) f.holds in
         elim (cases_eq u t) [
-          | inl same ↦ absurd (omega (arith, high, ap (λ v. weight take g v l.place) same, thin_weight take g t l.place pure))
+          | inl same ↦ absurd (omega (arith, high, ap (λ v. arc_weight take g v l.place) same, thin_weight take g t l.place pure))
           | inr other ↦ omega (
             arith,
             high,
             sum_weight take g t u stands.place ((contracted-IsContraction g t).origin stands.place) refl (omega (arith, f.high)) other,
-            stands.covers (λ p. weight take g u p),
+            stands.covers (λ p. arc_weight take g u p),
             weight_small take (contracted g t) within u stands.place,
           )
         ]
@@ -237,17 +237,17 @@ heavy_large : (take : Bool) (g : Graph) (t r p q : ℕ)
     → (contracted-IsContraction g t).origin r ≡ PairPlace p q → is_heavy_at take g t p q ≡ true
     → IsWithinLimits (contracted g t) → ⊥
 heavy_large take g t r p q o e small =
-    let f = any_at (is_heavy t (trans_round take g q)) (λ u. weight take g u p) (length g.trans) e in
+    let f = any_at (is_heavy t (trans_round take g q)) (λ u. arc_weight take g u p) (length g.trans) e in
     let u = f.number in
     let low : u < length g.trans = omega (arith, f.high) in
-    let parts = and_parts (not (eqb u t)) (ltb PART.weight (weight take g u p + weight_in u (trans_round take g q))) f.holds in
+    let parts = and_parts (not (eqb u t)) (ltb PART.weight (arc_weight take g u p + weight_in u (trans_round take g q))) f.holds in
     let other = not-true (eqb u t) parts.0 in
-    let s = weight take g u p + weight take g u q in
+    let s = arc_weight take g u p + arc_weight take g u q in
     let is = pair_weight take g t u r p q o ∙ (λ i. cond (lt-ltb u (length g.trans) low i) (cond (other i) 0 s) 0) in
     omega (
       arith,
-      ltb-true PART.weight (weight take g u p + weight_in u (trans_round take g q)) parts.1,
-      weight_in-weighted (λ u. weight take g u q) (length g.trans) 0 u (omega arith) f.high,
+      ltb-true PART.weight (arc_weight take g u p + weight_in u (trans_round take g q)) parts.1,
+      weight_in-weighted (λ u. arc_weight take g u q) (length g.trans) 0 u (omega arith) f.high,
       is,
       weight_small take (contracted g t) small u r,
     )
@@ -281,12 +281,12 @@ many_same a b e = elim (cases_lt PART.arcs b) [
 ]
 
 -- the sums at each pair are small where the numbers of the contracted graph are
-pair_sum : (take : Bool) (g : Graph) (t u r p q : ℕ) → u < length g.trans → IsPureOrdinary g t → IsWithinLimits (contracted g t) → (contracted-IsContraction g t).origin r ≡ PairPlace p q → weight take g u p + weight take g u q < 2 ^ 32
+pair_sum : (take : Bool) (g : Graph) (t u r p q : ℕ) → u < length g.trans → IsPureOrdinary g t → IsWithinLimits (contracted g t) → (contracted-IsContraction g t).origin r ≡ PairPlace p q → arc_weight take g u p + arc_weight take g u q < 2 ^ 32
 pair_sum take g t u r p q low plain small o =
-    let s = weight take g u p + weight take g u q in
+    let s = arc_weight take g u p + arc_weight take g u q in
     let is = pair_weight take g t u r p q o in
     elim (cases_eq u t) [
-      | inl same ↦ subst (λ v. weight take g v p + weight take g v q < 2 ^ 32) (sym same) (omega (arith, thin_weight take g t p plain, thin_weight take g t q plain))
+      | inl same ↦ subst (λ v. arc_weight take g v p + arc_weight take g v q < 2 ^ 32) (sym same) (omega (arith, thin_weight take g t p plain, thin_weight take g t q plain))
       | inr other ↦ omega (arith, is ∙ (λ i. cond (lt-ltb u (length g.trans) low i) (cond (ne_eqb u t other i) 0 s) 0), weight_small take (contracted g t) small u r)
     ]
 

@@ -4,7 +4,7 @@ use Rattle.std.proofs.lemmas.Bool.{cases_lt, cases_Bool, ne_eqb, lt-ltb, le-ltb}
 use Rattle.stg_net.specs.Graph.{Graph}
 use Rattle.stg_arena.specs.WalkItems.{weighted_from}
 use Rattle.stg_edit.proofs.Counted.{weighted_few}
-use Rattle.stg_contract.specs.inner.Weights.{weight_in, weight, trans_round}
+use Rattle.stg_contract.specs.inner.Weights.{weight_in, arc_weight, trans_round}
 use Rattle.stg_contract.specs.inner.Counts.{is_other, is_apart, count_others, count_apart, count_either}
 use Rattle.stg_contract.proofs.WeightLists.{weight_in-weighted}
 
@@ -66,8 +66,8 @@ either_from t v w ys (suc m) a same = omega (
 pub count_either-apart : (take : Bool) (g : Graph) (t p q : ℕ)
     → count_either take g t p q ≡ count_apart t (trans_round take g q) (trans_round take g p) + count_others t (trans_round take g q)
 count_either-apart take g t p q =
-    either_from t (λ u. weight take g u p) (λ u. weight take g u q) (trans_round take g q) (length g.trans) 0 (λ k l r. weight_in-weighted (λ u. weight take g u q) (length g.trans) 0 k l r)
+    either_from t (λ u. arc_weight take g u p) (λ u. arc_weight take g u q) (trans_round take g q) (length g.trans) 0 (λ k l r. weight_in-weighted (λ u. arc_weight take g u q) (length g.trans) 0 k l r)
 
 -- there are no more than transitions
 pub count_either-less : (take : Bool) (g : Graph) (t p q : ℕ) → count_either take g t p q ≤ length g.trans
-count_either-less take g t p q = weighted_few (length g.trans) (together t (λ u. weight take g u p) (λ u. weight take g u q))
+count_either-less take g t p q = weighted_few (length g.trans) (together t (λ u. arc_weight take g u p) (λ u. arc_weight take g u q))

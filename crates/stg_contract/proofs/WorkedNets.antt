@@ -14,7 +14,7 @@ use Rattle.stg_net.specs.declared.trans.TransName.{TransName}
 use Rattle.stg_net.specs.declared.arc.NetArc.{NetArc}
 use Rattle.stg_net.specs.Net.{NetLists, IsNet, IsWithin, IsBefore, IsArcOf, is_edge}
 use Rattle.stg_net.proofs.Edges.{is_edge-itself}
-use Rattle.stg_contract.specs.inner.Worked.{input, full_name, arc, net, all_pairs, names_differ, trans_differ, is_arc, stands_before, are_labels, are_arcs}
+use Rattle.stg_contract.specs.inner.Worked.{input, named_trans, arc, net, all_pairs, names_differ, trans_differ, is_arc, stands_before, are_labels, are_arcs}
 
 -- what a test finds of each holds of each
 each : {X : Type 0} (P : X → Type 0) (test : X → Bool) → ((x : X) → test x ≡ true → P x) → (xs : List X)
@@ -51,7 +51,7 @@ same_pairs R test sound (x ∷ xs) met =
 names_apart : (s t : List ℕ) → names_differ s t ≡ true → s ≢ t
 names_apart s t met same = true≢false (sym met ∙ ap not ((bytes_eq-Decides s t).1 same))
 
-trans_apart : (s t : ℕ × Edge × ℕ) → trans_differ s t ≡ true → full_name s ≢ full_name t
+trans_apart : (s t : ℕ × Edge × ℕ) → trans_differ s t ≡ true → named_trans s ≢ named_trans t
 trans_apart (s, e, i) (t, f, j) met same =
     let signals : s ≡ t = ap (λ (x : TransName). x.signal) same in
     let edges : e ≡ f = ap (λ (x : TransName). x.edge) same in
@@ -126,11 +126,11 @@ module _ (names : List (List ℕ)) (trans : List (ℕ × Edge × ℕ)) (tokens :
       let w = is_worked in
       let few = leb-true (length names) PART.signals w.signals in
       let many : length (map input names) ≡ length names = length-map names input in
-      let long : length (map full_name trans) ≡ length trans = length-map trans full_name in
+      let long : length (map named_trans trans) ≡ length trans = length-map trans named_trans in
       record {
         signal_names = each_pair (λ (s t : Signal). s.name ≢ t.name) input names_differ names_apart names w.names_differ;
-        trans_names = each_pair (λ (s t : TransName). s ≢ t) full_name trans_differ trans_apart trans w.trans_differ;
-        trans_signals = each_made (λ (t : TransName). t.signal < length (map input names)) full_name (λ (t : ℕ × Edge × ℕ). nat_lt t.0 (length names)) (λ t found. omega (arith, many, ltb-true t.0 (length names) found)) trans w.trans_signals;
+        trans_names = each_pair (λ (s t : TransName). s ≢ t) named_trans trans_differ trans_apart trans w.trans_differ;
+        trans_signals = each_made (λ (t : TransName). t.signal < length (map input names)) named_trans (λ (t : ℕ × Edge × ℕ). nat_lt t.0 (length names)) (λ t found. omega (arith, many, ltb-true t.0 (length names) found)) trans w.trans_signals;
         arcs = subst (λ n. All (IsArcOf (length tokens) n) (map arc arcs)) (sym long) (each (IsArcOf (length tokens) (length trans)) (is_arc (length tokens) (length trans)) (is_arc_of (length tokens) (length trans)) (map arc arcs) w.each_arc);
         ordered = same_pairs IsBefore stands_before arcs_before (map arc arcs) w.order;
         signals_fit = omega (arith, many, few);
@@ -142,7 +142,7 @@ module _ (names : List (List ℕ)) (trans : List (ℕ × Edge × ℕ)) (tokens :
   pub net-IsWithin : IsWithin PART (net names trans tokens arcs)
   net-IsWithin = let w = is_worked in record {
     signals = omega (arith, length-map names input, leb-true (length names) PART.signals w.signals);
-    trans = omega (arith, length-map trans full_name, leb-true (length trans) PART.trans w.count_trans);
+    trans = omega (arith, length-map trans named_trans, leb-true (length trans) PART.trans w.count_trans);
     places = leb-true (length tokens) PART.places w.places;
     arcs = omega (arith, leb-true (length arcs) PART.arcs w.count_arcs, length-map arcs arc);
     tokens = each (λ k. k ≤ PART.weight) (λ k. nat_le k PART.weight) (λ k found. leb-true k PART.weight found) tokens w.numbers;

@@ -22,7 +22,7 @@ use Rattle.stg_edit.specs.inner.DraftAt.{Base, table_at, draft_name, draft_at, n
 use Rattle.stg_edit.specs.Editing.{Editing}
 use Rattle.stg_edit.specs.inner.Nodes.{IsNode, without_node}
 use Rattle.stg_edit.specs.Replacing.{new_places}
-use Rattle.stg_edit.specs.inner.Sizes.{size_of, IsSized, plus, minus, node_arcs, size_at, size_from, is_round, round_below, size_round}
+use Rattle.stg_edit.specs.inner.Sizes.{size_of, IsSized, plus, minus, arcs_of_node, size_at, size_from, is_round, round_below, size_round}
 use Rattle.stg_edit.specs.inner.Table.{table_place}
 use Rattle.stg_edit.specs.inner.View.{base, IsEditor}
 use Rattle.stg_edit.specs.Walks.{taken_places, given_places}
@@ -77,11 +77,11 @@ module _ (base : Base) (l : Layout) (timed : IsTimed l) where
   places_long = length-map-range_with_len (table_place (length l.trans) (table_at l (length l.removals))) 0 (length l.places)
 
   -- the arcs at a live place
-  place_arcs_now : (p : ℕ) → p < length l.places → removed_at l Place p ≡ none → node_arcs l Place p ≡ count_arcs_at (now_of base l) p
+  place_arcs_now : (p : ℕ) → p < length l.places → removed_at l Place p ≡ none → arcs_of_node l Place p ≡ count_arcs_at (now_of base l) p
   place_arcs_now p inside live = λ i. length (along_place base l Take p timed inside live i) + length (along_place base l Give p timed inside live i)
 
   -- the arcs at a live transition
-  trans_arcs_now : (t : ℕ) → t < length l.trans → removed_at l Trans t ≡ none → node_arcs l Trans t ≡ length (taken_places (now_of base l) t) + length (given_places (now_of base l) t)
+  trans_arcs_now : (t : ℕ) → t < length l.trans → removed_at l Trans t ≡ none → arcs_of_node l Trans t ≡ length (taken_places (now_of base l) t) + length (given_places (now_of base l) t)
   trans_arcs_now t inside live = λ i. length (along_trans base l Take t timed inside live i) + length (along_trans base l Give t timed inside live i)
 
   -- what the draft has without a live node, and what is removed with it
@@ -89,18 +89,18 @@ module _ (base : Base) (l : Layout) (timed : IsTimed l) where
   size_deleted Place p live =
       let at = place_lives base p l timed live in
       let less = size_without_place (now_of base l) p live in
-      let arcs : count_arcs (without_node Place (now_of base l) p) + node_arcs l Place p ≡ count_arcs (now_of base l) = omega (arith, less.1, place_arcs_now p at.0 at.1) in
+      let arcs : count_arcs (without_node Place (now_of base l) p) + arcs_of_node l Place p ≡ count_arcs (now_of base l) = omega (arith, less.1, place_arcs_now p at.0 at.1) in
       λ i. record { places = less.0 i; arcs = arcs i }
   size_deleted Trans t live =
       let at = trans_lives base t l timed live in
       let less = size_without_trans (now_of base l) t live in
       let places : length (live_places (without_node Trans (now_of base l) t)) + 0 ≡ length (live_places (now_of base l)) = omega (arith, less.0) in
-      let arcs : count_arcs (without_node Trans (now_of base l) t) + node_arcs l Trans t ≡ count_arcs (now_of base l) = omega (arith, less.1, trans_arcs_now t at.0 at.1) in
+      let arcs : count_arcs (without_node Trans (now_of base l) t) + arcs_of_node l Trans t ≡ count_arcs (now_of base l) = omega (arith, less.1, trans_arcs_now t at.0 at.1) in
       λ i. record { places = places i; arcs = arcs i }
 
   -- live places from a number on have their arcs
-  pub arcs_from : (first n : ℕ) → ((p : ℕ) → first ≤ p → p < first + n → (p < length l.places) × (removed_at l Place p ≡ none)) → sum_by (node_arcs l Place) (range_with_len first n) ≡ sum_by (count_arcs_at (now_of base l)) (range_with_len first n)
-  arcs_from first n live = sum_range (node_arcs l Place) (count_arcs_at (now_of base l)) n first (λ p low high. place_arcs_now p (live p low high).0 (live p low high).1)
+  pub arcs_from : (first n : ℕ) → ((p : ℕ) → first ≤ p → p < first + n → (p < length l.places) × (removed_at l Place p ≡ none)) → sum_by (arcs_of_node l Place) (range_with_len first n) ≡ sum_by (count_arcs_at (now_of base l)) (range_with_len first n)
+  arcs_from first n live = sum_range (arcs_of_node l Place) (count_arcs_at (now_of base l)) n first (λ p low high. place_arcs_now p (live p low high).0 (live p low high).1)
 
   -- a draft of which all places are live
   pub size_whole : ((p : ℕ) → p < length l.places → removed_at l Place p ≡ none) → size_from l 0 ≡ size_of (now_of base l)
@@ -122,7 +122,7 @@ module _ (base : Base) (l : Layout) (timed : IsTimed l) where
         length-range_with_len 0 (length (now_of base l).places),
       )
 
-      arcs : sum_by (node_arcs l Place) (range_with_len 0 (length l.places - 0)) ≡ count_arcs (now_of base l)
+      arcs : sum_by (arcs_of_node l Place) (range_with_len 0 (length l.places - 0)) ≡ count_arcs (now_of base l)
       arcs =
           arcs_from 0 (length l.places - 0) (λ p low high. let inside : p < length l.places = omega (arith, high) in (inside, live p inside))
           ∙ ap (λ k. sum_by (count_arcs_at (now_of base l)) (range_with_len 0 k)) n
@@ -141,8 +141,8 @@ module _ (base : Base) (l : Layout) (timed : IsTimed l) where
       same : (p : ℕ) → p < length l.places → is_round l t p ≡ is_touched (now_of base l) t p
       same p inside = λ i. ltb 0 (along Take p inside i) || ltb 0 (along Give p inside i)
 
-      each : (p : ℕ) → p < length l.places → cond (is_round l t p) (node_arcs l Place p) 0 ≡ cond (is_touched (now_of base l) t p) (count_arcs_at (now_of base l) p) 0
-      each p inside = ap (λ z. cond z (node_arcs l Place p) 0) (same p inside) ∙ elim (cases_Bool (is_touched (now_of base l) t p)) [
+      each : (p : ℕ) → p < length l.places → cond (is_round l t p) (arcs_of_node l Place p) 0 ≡ cond (is_touched (now_of base l) t p) (count_arcs_at (now_of base l) p) 0
+      each p inside = ap (λ z. cond z (arcs_of_node l Place p) 0) (same p inside) ∙ elim (cases_Bool (is_touched (now_of base l) t p)) [
         | inl round ↦
             let at = place_lives base p l timed (touched_live (now_of base l) t p round) in
             ap (λ k. cond (is_touched (now_of base l) t p) k 0) (place_arcs_now p at.0 at.1)
@@ -159,10 +159,10 @@ module _ (base : Base) (l : Layout) (timed : IsTimed l) where
           ∙ ap (sum_by (λ p. cond (is_touched (now_of base l) t p) 1 0)) numbers
           ∙ sym (count_filter (is_touched (now_of base l) t) (place_numbers (now_of base l)))
 
-      arcs : sum_by (node_arcs l Place) (round_below l t (length l.places)) ≡ sum_by (count_arcs_at (now_of base l)) (touched_places (now_of base l) t)
+      arcs : sum_by (arcs_of_node l Place) (round_below l t (length l.places)) ≡ sum_by (count_arcs_at (now_of base l)) (touched_places (now_of base l) t)
       arcs =
-          sum_filter (node_arcs l Place) (is_round l t) (range_with_len 0 (length l.places))
-          ∙ sum_range (λ p. cond (is_round l t p) (node_arcs l Place p) 0) (λ p. cond (is_touched (now_of base l) t p) (count_arcs_at (now_of base l) p) 0) (length l.places) 0 (λ p low high. each p (omega (arith, high)))
+          sum_filter (arcs_of_node l Place) (is_round l t) (range_with_len 0 (length l.places))
+          ∙ sum_range (λ p. cond (is_round l t p) (arcs_of_node l Place p) 0) (λ p. cond (is_touched (now_of base l) t p) (count_arcs_at (now_of base l) p) 0) (length l.places) 0 (λ p low high. each p (omega (arith, high)))
           ∙ ap (sum_by (λ p. cond (is_touched (now_of base l) t p) (count_arcs_at (now_of base l) p) 0)) numbers
           ∙ sym (sum_filter (count_arcs_at (now_of base l)) (is_touched (now_of base l) t) (place_numbers (now_of base l)))
 
@@ -183,7 +183,7 @@ is_resized base t l l' timed timed' few range removed r = record {
     r.places,
     places_long base l timed,
     arcs_bounded (now_of base l) (omega (arith, few, length-map-range_with_len (draft_name l base.names (length l.removals)) 0 (length l.trans))),
-    sum_few (node_arcs l' Place) (range_with_len (length l.places) (length l'.places - length l.places)) (λ p. arcs_few l' p (omega (arith, few, r.later.trans))),
+    sum_few (arcs_of_node l' Place) (range_with_len (length l.places) (length l'.places - length l.places)) (λ p. arcs_few l' p (omega (arith, few, r.later.trans))),
     length-range_with_len (length l.places) (length l'.places - length l.places),
   );
 }
@@ -196,7 +196,7 @@ is_resized base t l l' timed timed' few range removed r = record {
         let P : Graph → Type 0 = λ g. IsPlace g p in
         place_lives base p l' timed' (subst P (sym r.now) (new_live (now_of base l) t p (omega (arith, low, places_long base l timed)) (omega (arith, high, r.places, places_long base l timed))))
 
-    made : sum_by (node_arcs l' Place) (range_with_len (length l.places) (length l'.places - length l.places)) ≡ sum_by (count_arcs_at (contracted (now_of base l) t)) (range_with_len (length (now_of base l).places) (new_places (now_of base l) t))
+    made : sum_by (arcs_of_node l' Place) (range_with_len (length l.places) (length l'.places - length l.places)) ≡ sum_by (count_arcs_at (contracted (now_of base l) t)) (range_with_len (length (now_of base l).places) (new_places (now_of base l) t))
     made =
         arcs_from base l' timed' (length l.places) (length l'.places - length l.places) (λ p low high. lives p low (omega (arith, high)))
         ∙ (λ i. sum_by (count_arcs_at (r.now i)) (range_with_len (sym (places_long base l timed) i) (new i)))
@@ -204,7 +204,7 @@ is_resized base t l l' timed timed' few range removed r = record {
     places : length (live_places (now_of base l')) + length (round_below l t (length l.places)) ≡ length (live_places (now_of base l)) + (length l'.places - length l.places)
     places = omega (arith, ap (λ h. length (live_places h)) r.now, ap (λ (s : Size). s.places) (size_touched base l timed t range removed), (size_contracted (now_of base l) t).0, new)
 
-    arcs : count_arcs (now_of base l') + sum_by (node_arcs l Place) (round_below l t (length l.places)) ≡ count_arcs (now_of base l) + sum_by (node_arcs l' Place) (range_with_len (length l.places) (length l'.places - length l.places))
+    arcs : count_arcs (now_of base l') + sum_by (arcs_of_node l Place) (round_below l t (length l.places)) ≡ count_arcs (now_of base l) + sum_by (arcs_of_node l' Place) (range_with_len (length l.places) (length l'.places - length l.places))
     arcs = omega (arith, ap count_arcs r.now, ap (λ (s : Size). s.arcs) (size_touched base l timed t range removed), (size_contracted (now_of base l) t).1, made)
 
 -- lists with an element behind that are the same

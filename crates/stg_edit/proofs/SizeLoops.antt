@@ -21,7 +21,7 @@ use Rattle.stg_arena.proofs.LinksOneSide.{head_on}
 use Rattle.stg_arena.proofs.RingWeights.{ring_here}
 use Rattle.stg_edit.specs.declared.size.Size.{Size}
 use Rattle.stg_edit.specs.inner.RemovedPlaces.{weights_at, touch}
-use Rattle.stg_edit.specs.inner.Sizes.{node_arcs, cell_arcs, size_at, is_round, round_below, size_below, size_round, plus}
+use Rattle.stg_edit.specs.inner.Sizes.{arcs_of_node, cell_arcs, size_at, is_round, round_below, size_below, size_round, plus}
 use Rattle.stg_edit.proofs.Counted.{range_more, length_more, sum_more, weighted_few}
 use Rattle.stg_edit.proofs.PairPlaces.{at_trans, is_arc}
 use Rattle.stg_edit.proofs.PresetRemoval.{IsAtPlace, at_place, untouched_between}
@@ -30,7 +30,7 @@ use Rattle.stg_edit.proofs.PresetRemoval.{IsAtPlace, at_place, untouched_between
 pub record IsCountingArcs (l : Layout) (b : End) (k x far count : ℕ) : Type 0 where
   pub walking : IsWalking l b k x
   pub here : far ≡ end_of (other b) (cell_at l.cells x)
-  pub counted : count + (length (items_left l b k Take x) + length (items_left l b k Give x)) ≡ node_arcs l b k
+  pub counted : count + (length (items_left l b k Take x) + length (items_left l b k Give x)) ≡ arcs_of_node l b k
 
 pub counting_starts : (l : Layout) (b : End) (k h x far : ℕ) → IsLaid l → IsTimed l → k < count_of l b → removed_at l b k ≡ none → h ≡ head_of l b k → IsNextAt (side l.cells b) (side l.cells (other b)) (times_of l) (length l.removals) h x → far ≡ end_of (other b) (cell_at l.cells x) → IsCountingArcs l b k x far 0
 counting_starts l b k h x far laid timed range live head f here = record {
@@ -64,7 +64,7 @@ counting_on l b k x far count y far' laid range s arc f here =
       );
     }
 
-pub counting_ends : (l : Layout) (b : End) (k x far count : ℕ) → IsCountingArcs l b k x far count → far ≡ none → count ≡ node_arcs l b k
+pub counting_ends : (l : Layout) (b : End) (k x far count : ℕ) → IsCountingArcs l b k x far count → far ≡ none → count ≡ arcs_of_node l b k
 counting_ends l b k x far count s e = omega (arith, s.counted, ap length (nothing Take), ap length (nothing Give))
   where
     nothing : (way : Way) → items_left l b k way x ≡ []
@@ -81,7 +81,7 @@ counting_few l b k x far count laid s = omega (
 )
 
 -- a place has at most two arcs with each transition
-pub arcs_few : (l : Layout) (p : ℕ) → length l.trans ≤ PART.trans → node_arcs l Place p ≤ 2000
+pub arcs_few : (l : Layout) (p : ℕ) → length l.trans ≤ PART.trans → arcs_of_node l Place p ≤ 2000
 arcs_few l p few =
     let most : PART.trans ≡ 1000 = refl in
     omega (arith, few, most, weighted_few (length l.trans) (weight_along l Place Take p), weighted_few (length l.trans) (weight_along l Place Give p))
@@ -100,7 +100,7 @@ sum_on f first n =
 -- while the places from `first` on are counted, so far those below p
 pub record IsSizedFrom (l : Layout) (first p : ℕ) (size : Size) : Type 0 where
   pub places : size.places ≡ p - first
-  pub arcs : size.arcs ≡ sum_by (node_arcs l Place) (range_with_len first (p - first))
+  pub arcs : size.arcs ≡ sum_by (arcs_of_node l Place) (range_with_len first (p - first))
   pub few : size.arcs ≤ 2000 * (p - first)
 
 pub sized_on : (l : Layout) (first p : ℕ) (size : Size) → length l.trans ≤ PART.trans → first ≤ p → IsSizedFrom l first p size → IsSizedFrom l first (p + 1) (plus size (size_at l Place p))
@@ -111,9 +111,9 @@ sized_on l first p size few low s =
       arcs = omega (
         arith,
         s.arcs,
-        ap (λ n. sum_by (node_arcs l Place) (range_with_len first n)) e,
-        sum_on (node_arcs l Place) first (p - first),
-        ap (node_arcs l Place) (let e : first + (p - first) ≡ p = omega arith in e),
+        ap (λ n. sum_by (arcs_of_node l Place) (range_with_len first n)) e,
+        sum_on (arcs_of_node l Place) first (p - first),
+        ap (arcs_of_node l Place) (let e : first + (p - first) ≡ p = omega arith in e),
       );
       few = omega (arith, s.few, arcs_few l p few);
     }
@@ -149,9 +149,9 @@ size_skip l t n (suc k) off =
     let e : n + suc k ≡ n + k + 1 = omega arith in
     let none_here = off (n + k) (omega arith) (omega arith) in
     let long = length_more (is_round l t) (n + k) ∙ ap {B = ℕ} (λ z. length (round_below l t (n + k)) + cond z 1 0) none_here in
-    let whole = sum_more (node_arcs l Place) (is_round l t) (n + k) ∙ ap (λ z. sum_by (node_arcs l Place) (round_below l t (n + k)) + cond z (node_arcs l Place (n + k)) 0) none_here in
+    let whole = sum_more (arcs_of_node l Place) (is_round l t) (n + k) ∙ ap (λ z. sum_by (arcs_of_node l Place) (round_below l t (n + k)) + cond z (arcs_of_node l Place (n + k)) 0) none_here in
     let places : length (round_below l t (n + k + 1)) ≡ length (round_below l t (n + k)) = omega (arith, long) in
-    let arcs : sum_by (node_arcs l Place) (round_below l t (n + k + 1)) ≡ sum_by (node_arcs l Place) (round_below l t (n + k)) = omega (arith, whole) in
+    let arcs : sum_by (arcs_of_node l Place) (round_below l t (n + k + 1)) ≡ sum_by (arcs_of_node l Place) (round_below l t (n + k)) = omega (arith, whole) in
     ap (size_below l t) e ∙ (λ i. record { places = places i; arcs = arcs i }) ∙ size_skip l t n k (λ p low high. off p low (omega (arith, high)))
 
 -- no more than n of the places below n are round t
@@ -204,7 +204,7 @@ module _ (t : ℕ) (l : Layout) (laid : IsLaid l) (timed : IsTimed l) (range : t
     pub sizing_few : length l.trans ≤ PART.trans → (size.places ≤ p) × (size.arcs ≤ 2000 * p)
     sizing_few few =
         let long : length (round_below l t p) ≤ p = round_few l t p in
-        (omega (arith, ap (λ (s : Size). s.places) before, long), omega (arith, ap (λ (s : Size). s.arcs) before, long, sum_few (node_arcs l Place) (round_below l t p) (λ q. arcs_few l q few)))
+        (omega (arith, ap (λ (s : Size). s.places) before, long), omega (arith, ap (λ (s : Size). s.arcs) before, long, sum_few (arcs_of_node l Place) (round_below l t p) (λ q. arcs_few l q few)))
 
     module _ (z : ℕ) (f : IsNextAt (side l.cells Trans) (side l.cells Place) (times_of l) (length l.removals) x z) where
       -- the walk goes up
@@ -233,9 +233,9 @@ module _ (t : ℕ) (l : Layout) (laid : IsLaid l) (timed : IsTimed l) (range : t
       sizing_on some =
           let yes = round l t p timed a.live (omega (arith, some, touch_here)) in
           let long = length_more (is_round l t) p ∙ ap {B = ℕ} (λ z. length (round_below l t p) + cond z 1 0) yes in
-          let whole = sum_more (node_arcs l Place) (is_round l t) p ∙ ap (λ z. sum_by (node_arcs l Place) (round_below l t p) + cond z (node_arcs l Place p) 0) yes in
+          let whole = sum_more (arcs_of_node l Place) (is_round l t) p ∙ ap (λ z. sum_by (arcs_of_node l Place) (round_below l t p) + cond z (arcs_of_node l Place p) 0) yes in
           let places = ap (λ (s : Size). s.places + 1) before ∙ sym long in
-          let arcs = ap (λ (s : Size). s.arcs + node_arcs l Place p) before ∙ sym whole in
+          let arcs = ap (λ (s : Size). s.arcs + arcs_of_node l Place p) before ∙ sym whole in
           record {
             walking = walk_on l Trans t x z s.walking f;
             counted = (λ i. record { places = places i; arcs = arcs i }) ∙ sym past;

@@ -53,10 +53,10 @@ fn cell_arcs(arena: &Arena, x: u32) -> u64
 }
 
 /// The number of arcs at a live place, or at a live transition.
-fn node_arcs(arena: &Arena, end: End, node: u32) -> u64
+fn arcs_of_node(arena: &Arena, end: End, node: u32) -> u64
     requires in_range { node < count_of arena.now end }
     requires live { removed_at arena.now end node ≡ none }
-    ensures { result ≡ sizes.node_arcs arena.now end node }
+    ensures { result ≡ sizes.arcs_of_node arena.now end node }
 {
     let mut at = arena.first(end, node);
     let mut far = arena.far(end, at);
@@ -75,7 +75,7 @@ pub fn size_at(arena: &Arena, end: End, node: u32) -> Size
     requires live { removed_at arena.now end node ≡ none }
     ensures { result ≡ sizes.size_at arena.now end node }
 {
-    let arcs = node_arcs(arena, end, node);
+    let arcs = arcs_of_node(arena, end, node);
     match end {
         End::Place => Size { places: 1, arcs },
         End::Trans => Size { places: 0, arcs },

@@ -6,7 +6,7 @@ use Rattle.stg_edit.specs.Counted.{count_arcs_at}
 use Rattle.stg_edit.specs.Walks.{taken_places, given_places}
 use Rattle.stg_arena.specs.WalkItems.{weighted}
 use Rattle.stg_edit.specs.Replacing.{arcs_of_pair}
-use Rattle.stg_contract.specs.inner.Weights.{weight_in, weight}
+use Rattle.stg_contract.specs.inner.Weights.{weight_in, arc_weight}
 use Rattle.stg_contract.specs.inner.Tests.{is_kept}
 
 -- whether the number isn't t
@@ -28,7 +28,7 @@ count_apart t ys xs = length (filter (is_apart t ys) xs)
 -- how many transitions but t have an arc of one direction at p or at q
 abbrev pub count_either : Bool → Graph → ℕ → ℕ → ℕ → ℕ
 count_either take g t p q =
-    let both : ℕ → ℕ = λ u. if u == t then 0 else weight take g u p + weight take g u q in
+    let both : ℕ → ℕ = λ u. if u == t then 0 else arc_weight take g u p + arc_weight take g u q in
     length (weighted (length g.trans) both)
 
 -- how many arcs the pairs of p with each of these places have

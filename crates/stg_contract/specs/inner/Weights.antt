@@ -17,10 +17,10 @@ abbrev pub AreTrans : Graph → List (ℕ × ℕ) → Type 0
 AreTrans g xs = All (λ (x : ℕ × ℕ). IsTrans g x.0) xs
 
 -- what t takes from p, or what it gives to p
-abbrev pub weight : Bool → Graph → ℕ → ℕ → ℕ
-weight true g t p = takes g t p
-weight false g t p = gives g t p
+abbrev pub arc_weight : Bool → Graph → ℕ → ℕ → ℕ
+arc_weight true g t p = takes g t p
+arc_weight false g t p = gives g t p
 
 -- the transitions that take from p, or those that give to it
 abbrev pub trans_round : Bool → Graph → ℕ → List (ℕ × ℕ)
-trans_round take g p = weighted (length g.trans) (λ t. weight take g t p)
+trans_round take g p = weighted (length g.trans) (λ t. arc_weight take g t p)

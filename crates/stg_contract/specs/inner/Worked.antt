@@ -17,29 +17,29 @@ abbrev pub input : List ℕ → Signal
 input name = record { name = name; kind = Input }
 
 -- the transition of this signal, edge and index
-abbrev pub full_name : ℕ × Edge × ℕ → TransName
-full_name (signal, edge, index) = record { signal = signal; edge = edge; index = index }
+abbrev pub named_trans : ℕ × Edge × ℕ → TransName
+named_trans (signal, edge, index) = record { signal = signal; edge = edge; index = index }
 
 -- the arc of this place, transition, direction and weight
 abbrev pub arc : ℕ × ℕ × Bool × ℕ → NetArc
 arc (p, t, into, weight) = record { place = p; trans = t; into = into; weight = weight }
 
 -- the names that are lent
-abbrev pub texts : List (Bor (List ℕ)) → List (List ℕ)
-texts names = map (λ name. name.now) names
+abbrev pub lent_texts : List (Bor (List ℕ)) → List (List ℕ)
+lent_texts names = map (λ name. name.now) names
 
 -- the net of these tables
 abbrev pub net : List (List ℕ) → List (ℕ × Edge × ℕ) → List ℕ → List (ℕ × ℕ × Bool × ℕ) → NetLists
 net names trans tokens arcs = record {
   signals = map input names;
-  trans = map full_name trans;
+  trans = map named_trans trans;
   tokens = tokens;
   arcs = map arc arcs;
 }
 
 -- the net of these tables, where the names are lent
 abbrev pub lent_net : List (Bor (List ℕ)) → List (ℕ × Edge × ℕ) → List ℕ → List (ℕ × ℕ × Bool × ℕ) → NetLists
-lent_net names trans tokens arcs = net (texts names) trans tokens arcs
+lent_net names trans tokens arcs = net (lent_texts names) trans tokens arcs
 
 -- so many edits were made
 abbrev pub MadeEdits : Editing → Editing → ℕ → Type 0

@@ -32,25 +32,25 @@ abbrev pub minus : Size → Size → Size
 minus s less = record { places = s.places - less.places; arcs = s.arcs - less.arcs }
 
 -- how many arcs of one kind there are at a live place, or at a live transition
-abbrev pub node_arcs_along : Layout → End → Way → ℕ → ℕ
-node_arcs_along l b way k = length (weighted (count_of l (other b)) (weight_along l b way k))
+abbrev pub arcs_of_node_along : Layout → End → Way → ℕ → ℕ
+arcs_of_node_along l b way k = length (weighted (count_of l (other b)) (weight_along l b way k))
 
 -- how many arcs there are at it
-abbrev pub node_arcs : Layout → End → ℕ → ℕ
-node_arcs l b k = node_arcs_along l b Take k + node_arcs_along l b Give k
+abbrev pub arcs_of_node : Layout → End → ℕ → ℕ
+arcs_of_node l b k = arcs_of_node_along l b Take k + arcs_of_node_along l b Give k
 
 -- how many arcs a cell stands for
 abbrev pub cell_arcs : Layout → ℕ → ℕ
 cell_arcs l x = min 1 (cell_at l.cells x).take + min 1 (cell_at l.cells x).give
 
 -- how many places a node is
-abbrev pub places_in : End → ℕ
-places_in Place = 1
-places_in Trans = 0
+abbrev pub places_of_end : End → ℕ
+places_of_end Place = 1
+places_of_end Trans = 0
 
 -- what is removed with a live place, or with a live transition
 abbrev pub size_at : Layout → End → ℕ → Size
-size_at l b k = record { places = places_in b; arcs = node_arcs l b k }
+size_at l b k = record { places = places_of_end b; arcs = arcs_of_node l b k }
 
 -- the places from that number on are live
 abbrev pub AreLive : Layout → ℕ → Type 0
@@ -60,7 +60,7 @@ AreLive l first = (p : ℕ) → first ≤ p → p < length l.places → removed_
 abbrev pub size_from : Layout → ℕ → Size
 size_from l first = record {
   places = length l.places - first;
-  arcs = sum_by (node_arcs l Place) (range_with_len first (length l.places - first));
+  arcs = sum_by (arcs_of_node l Place) (range_with_len first (length l.places - first));
 }
 
 -- whether there is an arc of one kind between t and the live place p
@@ -79,7 +79,7 @@ round_below l t n = filter (is_round l t) (range_with_len 0 n)
 abbrev pub size_below : Layout → ℕ → ℕ → Size
 size_below l t n = record {
   places = length (round_below l t n);
-  arcs = sum_by (node_arcs l Place) (round_below l t n);
+  arcs = sum_by (arcs_of_node l Place) (round_below l t n);
 }
 
 -- all places round t with their arcs

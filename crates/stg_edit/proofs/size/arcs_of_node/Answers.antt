@@ -1,7 +1,7 @@
 use Rattle.std.proofs.Common.{◌+◌, ℕ, subst, sym, refl, arith}
 use Rattle.stg_arena.specs.ArenaView.{head_of}
 use Rattle.stg_edit.proofs.SizeLoops.{IsCountingArcs, counting_starts, counting_on, counting_ends, counting_few}
-use Rattle.stg_edit.proofs.size.node_arcs.Goals as goal
+use Rattle.stg_edit.proofs.size.arcs_of_node.Goals as goal
 
 pub loop-far-init : goal.loop-far-init
 loop-far-init c =

@@ -1,6 +1,6 @@
 use Rattle.std.proofs.Common.{◌-◌, length, cond, eqb}
 use Rattle.stg_edit.proofs.SizeLoops.{IsCountingArcs}
-use Rattle.stg_edit.proofs.size.node_arcs.Given as goal
+use Rattle.stg_edit.proofs.size.arcs_of_node.Given as goal
 
 abbrev pub invariant-loop-far : goal.invariant-loop-far
 invariant-loop-far l = IsCountingArcs l.arena l.end l.node l.at l.far l.arcs
