@@ -1,0 +1,79 @@
+-- The rules of redundancy computed on small nets.
+use Rattle.std.proofs.Common.{◌≡◌, ℕ, zero, suc, true, false, List, [], ◌∷◌, length, Option, Some, refl, arith}
+use Rattle.stg_net.specs.declared.trans.Edge.TheVariants.{Rise}
+use Rattle.stg_net.specs.Graph.{Graph, FullName, Place}
+use Rattle.stg_edit.specs.Drafts.{IsWeightlessPastLast}
+use Rattle.stg_laws.specs.RedundantPlaces.{IsSamePlace, IsShortcut}
+use Rattle.stg_redundant.specs.inner.Tests.{is_same_place, is_loop_place}
+use Rattle.stg_redundant.specs.inner.Chains.{all_links, HasPath}
+use Rattle.stg_redundant.proofs.RuleTests.{same_place_is}
+use Rattle.stg_redundant.proofs.LinkPaths.{shortcut_is}
+
+abbrev name : ℕ → FullName
+name s = record { signal = s ∷ []; edge = Rise; index = 0 }
+
+abbrev place : ℕ → List ℕ → List ℕ → Option Place
+place k taken given = Some (record { tokens = k; taken = taken; given = given })
+
+-- two places from a+ to x+, of which the first holds a token
+abbrev equal : Graph
+equal = record {
+  places = place 1 (0 ∷ 1 ∷ []) (1 ∷ 0 ∷ []) ∷ place 0 (0 ∷ 1 ∷ []) (1 ∷ 0 ∷ []) ∷ [];
+  trans = Some (name 97) ∷ Some (name 120) ∷ [];
+  known = [];
+  first_places = 2;
+}
+
+narrow : IsWeightlessPastLast equal
+narrow zero p past = absurd (omega (arith, past))
+narrow (suc zero) p past = absurd (omega (arith, past))
+narrow (suc (suc t)) zero past = (refl, refl)
+narrow (suc (suc t)) (suc zero) past = (refl, refl)
+narrow (suc (suc t)) (suc (suc p)) past = (refl, refl)
+
+first_goes : IsSamePlace equal 0 1
+first_goes = same_place_is equal 0 1 narrow refl refl
+
+second_stays : is_same_place equal 1 0 ≡ false
+second_stays = refl
+
+-- a chain of places from the first transition to the second, to the third and to the fourth, beside a place from the first to the fourth
+abbrev chain : Graph
+chain = record {
+  places = place 0 (0 ∷ 1 ∷ 0 ∷ 0 ∷ []) (1 ∷ 0 ∷ 0 ∷ 0 ∷ []) ∷ place 0 (0 ∷ 0 ∷ 0 ∷ 1 ∷ []) (1 ∷ 0 ∷ 0 ∷ 0 ∷ [])
+      ∷ place 0 (0 ∷ 0 ∷ 1 ∷ 0 ∷ []) (0 ∷ 1 ∷ 0 ∷ 0 ∷ []) ∷ place 0 (0 ∷ 0 ∷ 0 ∷ 1 ∷ []) (0 ∷ 0 ∷ 1 ∷ 0 ∷ []) ∷ [];
+  trans = Some (name 97) ∷ Some (name 120) ∷ Some (name 98) ∷ Some (name 121) ∷ [];
+  known = [];
+  first_places = 4;
+}
+
+four_links : length (all_links chain) ≡ 4
+four_links = refl
+
+narrow_chain : IsWeightlessPastLast chain
+narrow_chain zero p past = absurd (omega (arith, past))
+narrow_chain (suc zero) p past = absurd (omega (arith, past))
+narrow_chain (suc (suc zero)) p past = absurd (omega (arith, past))
+narrow_chain (suc (suc (suc zero))) p past = absurd (omega (arith, past))
+narrow_chain (suc (suc (suc (suc t)))) zero past = (refl, refl)
+narrow_chain (suc (suc (suc (suc t)))) (suc zero) past = (refl, refl)
+narrow_chain (suc (suc (suc (suc t)))) (suc (suc zero)) past = (refl, refl)
+narrow_chain (suc (suc (suc (suc t)))) (suc (suc (suc zero))) past = (refl, refl)
+narrow_chain (suc (suc (suc (suc t)))) (suc (suc (suc (suc p)))) past = (refl, refl)
+
+long_way : HasPath (all_links chain) 1 0 3 0
+long_way = record {
+  path = record { place = 0; giver = 0; taker = 1; tokens = 0 } ∷ record { place = 2; giver = 1; taker = 2; tokens = 0 } ∷ record { place = 3; giver = 2; taker = 3; tokens = 0 } ∷ [];
+  leads = ((0, omega arith, refl), (λ e. omega (arith, e)), refl, ((2, omega arith, refl), (λ e. omega (arith, e)), refl, ((3, omega arith, refl), (λ e. omega (arith, e)), refl, refl)));
+  few = omega arith;
+}
+
+is_shortcut : IsShortcut chain 1
+is_shortcut = shortcut_is chain 1 (record { place = 1; giver = 0; taker = 3; tokens = 0 }) narrow_chain refl (λ e. omega (arith, e)) long_way
+
+-- a place without arcs
+abbrev idle : Graph
+idle = record equal { places = place 0 (0 ∷ 0 ∷ []) (0 ∷ 0 ∷ []) ∷ [] }
+
+idle_loops : is_loop_place idle 0 ≡ true
+idle_loops = refl

@@ -1,0 +1,4 @@
+pub mod RuleTests
+pub mod PathSums
+pub mod LinkPaths
+pub mod Examples

@@ -1,0 +1,36 @@
+use Rattle.std.proofs.Common.{◌-◌, sym, subst, ◌∙◌, inl, inr, arith}
+use Rattle.std.proofs.lemmas.Bool.{cases_order, false≢true}
+use Rattle.stg_net.specs.Graph.{IsPlace}
+use Rattle.stg_laws.specs.RedundantPlaces.{IsRedundantPlace}
+use Rattle.stg_redundant.proofs.RuleTests.{redundant_live}
+use Rattle.stg_redundant.specs.inner.Searches.{IsPlaceRuleOf}
+use Rattle.stg_redundant.proofs.places.redundant_place.Goals as goal
+
+pub returns-in-Some : goal.returns-in-Some
+returns-in-Some c =
+    let g = c.args.editor.now.now in
+    (subst (IsPlaceRuleOf g (c.loop-p.p - 1)) c.in-Some.is c.in_ok-rule.ensures, λ q r. omega (arith, c.loop-p.invariant q r, c.loop-p-test.true))
+
+pub loop-p-preserved-in-None : goal.loop-p-preserved-in-None
+loop-p-preserved-in-None c =
+    let g = c.args.editor.now.now in
+    let p = c.loop-p.p - 1 in
+    let none = subst (IsPlaceRuleOf g p) c.in-None.is c.in_ok-rule.ensures in
+    λ q r. elim (cases_order q p) [
+      | inl e ↦ absurd (none (subst (IsRedundantPlace g) e r))
+      | inr (inl low) ↦ low
+      | inr (inr high) ↦ absurd (omega (arith, high, c.loop-p.invariant q r))
+    ]
+
+pub loop-p-preserved : goal.loop-p-preserved
+loop-p-preserved c =
+    let g = c.args.editor.now.now in
+    let p = c.loop-p.p - 1 in
+    λ q r. elim (cases_order q p) [
+      | inl e ↦ absurd (false≢true (sym (sym c.has_place.ensures ∙ c.if-has_place.false) ∙ subst (IsPlace g) e (redundant_live g q r)))
+      | inr (inl low) ↦ low
+      | inr (inr high) ↦ absurd (omega (arith, high, c.loop-p.invariant q r))
+    ]
+
+pub returns : goal.returns
+returns c = λ q r. omega (arith, c.loop-p.invariant q r, c.loop-p-test.false)

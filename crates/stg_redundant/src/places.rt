@@ -1,0 +1,117 @@
+//! Redundant places.
+
+ghost use Rattle.std.specs.Prelude.{◌≡◌, ◌↔◌, length, is_some, IfOk, IsTrue};
+ghost use Rattle.stg_net.specs.Graph.{IsPlace, place_at};
+ghost use Rattle.stg_laws.specs.RedundantPlaces.{IsShortcut};
+ghost use Rattle.stg_edit.specs.Drafts.{IsDraft};
+ghost use Rattle.stg_redundant.specs.inner.Chains.{all_links};
+ghost use Rattle.stg_redundant.specs.inner.Tests as tests;
+ghost use Rattle.stg_redundant.specs.Rules.{IsPlaceFound};
+ghost use Rattle.stg_redundant.specs.inner.Searches.{IsFirst, IsPlaceRuleOf};
+
+use crate::chains::{Link, find_links, has_chain, link_at};
+use crate::found::{PlaceFound, PlaceRule};
+use crate::walks::{are_at_most, are_same};
+use std::alloc::Global;
+use stg_edit::Editor;
+use stg_net::NoMemory;
+
+/// Whether there is a live place of that number.
+fn has_place(editor: &Editor, p: u32) -> bool
+    ensures { result ≡ is_some (place_at editor.now.now p) }
+{
+    editor.is_place(p)
+}
+
+/// Whether q is another live place with the arcs of p and at most its tokens.
+fn is_same(editor: &Editor, p: u32, q: u32) -> bool
+    requires { IsPlace editor.now.now p }
+    ensures { result ≡ tests.is_same_place editor.now.now p q }
+{
+    p != q
+        && has_place(editor, q)
+        && editor.tokens(q) <= editor.tokens(p)
+        && are_same(editor.takers(p), editor.takers(q))
+        && are_same(editor.givers(p), editor.givers(q))
+}
+
+/// The least other place with the arcs of a live place and at most its tokens.
+fn find_same(editor: &Editor, p: u32) -> Option<u32>
+    requires { IsPlace editor.now.now p }
+    ensures value { IsFirst (tests.is_same_place editor.now.now p)
+        (length editor.now.now.places) result }
+    ensures draft { IsDraft editor.now }
+{
+    for q in 0..editor.next_place() {
+        if is_same(editor, p, q) {
+            return Some(q);
+        }
+    }
+    None
+}
+
+/// Whether each transition gives to a live place what it takes, and the place holds as much.
+fn is_loop(editor: &Editor, p: u32) -> bool
+    requires { IsPlace editor.now.now p }
+    ensures { result ≡ tests.is_loop_place editor.now.now p }
+{
+    are_same(editor.takers(p), editor.givers(p)) && are_at_most(editor.takers(p), editor.tokens(p))
+}
+
+/// Whether a chain of other places leads where a live place leads, with at most its tokens.
+fn is_shortcut(alloc: Global, editor: &Editor, links: &[Link], p: u32) -> Result<bool, NoMemory>
+    requires live { IsPlace editor.now.now p }
+    requires links { links.now ≡ all_links editor.now.now }
+    ensures { IfOk result (λ yes. IsTrue yes ↔ IsShortcut editor.now.now p) }
+{
+    match link_at(editor, p) {
+        None => Ok(false),
+        Some(link) => {
+            if link.giver == link.taker {
+                return Ok(false);
+            }
+            let found = has_chain(alloc, links, editor.all_trans(), link)?;
+            Ok(found)
+        }
+    }
+}
+
+/// The first rule by which a live place is redundant.
+fn rule_of(
+    alloc: Global,
+    editor: &Editor,
+    links: &[Link],
+    p: u32,
+) -> Result<Option<PlaceRule>, NoMemory>
+    requires live { IsPlace editor.now.now p }
+    requires links { links.now ≡ all_links editor.now.now }
+    ensures { IfOk result (λ rule. IsPlaceRuleOf editor.now.now p rule) }
+{
+    match find_same(editor, p) {
+        Some(q) => return Ok(Some(PlaceRule::Same(q))),
+        None => {}
+    }
+    if is_loop(editor, p) {
+        return Ok(Some(PlaceRule::Loop));
+    }
+    if is_shortcut(alloc, editor, links, p)? {
+        return Ok(Some(PlaceRule::Shortcut));
+    }
+    Ok(None)
+}
+
+/// The redundant place of greatest number, with its first rule.
+pub fn redundant_place(alloc: Global, editor: &Editor) -> Result<Option<PlaceFound>, NoMemory>
+    ensures { IfOk result (λ found. IsPlaceFound editor.now.now found) }
+{
+    let links = find_links(alloc, editor)?;
+    for p in (0..editor.next_place()).rev() {
+        if has_place(editor, p) {
+            match rule_of(alloc, editor, &links, p)? {
+                Some(rule) => return Ok(Some(PlaceFound { place: p, rule })),
+                None => {}
+            }
+        }
+    }
+    Ok(None)
+}
