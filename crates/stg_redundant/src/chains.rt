@@ -85,7 +85,8 @@ fn lower_all(sums: &mut [u64], links: &[Link], skip: u32) -> bool
     ensures small { All (λ sum. sum ≤ 2 ^ 32) sums.new }
     ensures least { result ≡ false → chains.AreLeast links.now skip sums.new }
     ensures fallen { result ≡ true → sum_by (λ x. x) sums.new < sum_by (λ x. x) sums.old }
-    ensures reached { (a far : ℕ) → chains.AreReached links.now skip a far sums.old → chains.AreReached links.now skip a far sums.new }
+    ensures reached { (a far : ℕ) → chains.AreReached links.now skip a far sums.old
+        → chains.AreReached links.now skip a far sums.new }
     ensures start { (a : ℕ) → slice_index sums.old a ≡ 0 → slice_index sums.new a ≡ 0 }
 {
     let mut fell = false;
@@ -103,7 +104,8 @@ fn lower_to_least(sums: &mut [u64], links: &[Link], skip: u32)
     requires small { All (λ sum. sum ≤ 2 ^ 32) sums.old }
     ensures len { length sums.new ≡ length sums.old }
     ensures least { chains.AreLeast links.now skip sums.new }
-    ensures reached { (a far : ℕ) → chains.AreReached links.now skip a far sums.old → chains.AreReached links.now skip a far sums.new }
+    ensures reached { (a far : ℕ) → chains.AreReached links.now skip a far sums.old
+        → chains.AreReached links.now skip a far sums.new }
     ensures start { (a : ℕ) → slice_index sums.old a ≡ 0 → slice_index sums.new a ≡ 0 }
 {
     while lower_all(sums, links, skip) {}
@@ -115,20 +117,23 @@ pub fn has_chain(alloc: Global, links: &[Link], trans: u32, link: Link) -> Resul
     requires within { chains.AreWithin trans links.now }
     requires giver { link.giver < trans }
     requires taker { link.taker < trans }
-    ensures { IfOk result (λ yes. IsTrue yes ↔ chains.HasPath links.now link.place link.giver link.taker link.tokens) }
+    ensures { IfOk result (λ yes. IsTrue yes
+        ↔ chains.HasPath links.now link.place link.giver link.taker link.tokens) }
 {
     let far = link.tokens as u64 + 1;
     let mut sums = vec![in alloc; far; trans as usize]?;
     Ok(is_reached(&mut sums, links, link))
 }
 
-/// Whether the sum along links but that of the place is within reach, where all sums begin out of it.
+/// Whether the sum along links but that of the place is within reach, where all sums begin out of
+/// it.
 fn is_reached(sums: &mut [u64], links: &[Link], link: Link) -> bool
     requires within { chains.AreWithin (length sums.old) links.now }
     requires giver { link.giver < length sums.old }
     requires taker { link.taker < length sums.old }
     requires far { All (λ sum. sum ≡ link.tokens + 1) sums.old }
-    ensures { IsTrue result ↔ chains.HasPath links.now link.place link.giver link.taker link.tokens }
+    ensures { IsTrue result
+        ↔ chains.HasPath links.now link.place link.giver link.taker link.tokens }
 {
     let far = link.tokens as u64 + 1;
     start(sums, link.giver, far);
@@ -143,7 +148,8 @@ fn start(sums: &mut [u64], from: u32, far: u64)
     requires small { far ≤ 2 ^ 32 }
     ensures len { length sums.new ≡ length sums.old }
     ensures small { All (λ sum. sum ≤ 2 ^ 32) sums.new }
-    ensures reached { (links : List Link) (p : ℕ) → chains.AreReached links p from far sums.new }
+    ensures reached { (links : List Link) (p : ℕ)
+        → chains.AreReached links p from far sums.new }
     ensures start { slice_index sums.new from ≡ 0 }
 {
     sums[from as usize] = 0;

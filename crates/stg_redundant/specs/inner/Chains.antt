@@ -31,7 +31,8 @@ all_links g = links_below g (length g.places)
 -- links other than that of the place p lead from a to b
 abbrev pub IsPath : List Link → ℕ → ℕ → ℕ → List Link → Type 0
 IsPath links p a b [] = a ≡ b
-IsPath links p a b (l ∷ path) = Contains links l × (l.place ≢ p) × (l.giver ≡ a) × IsPath links p l.taker b path
+IsPath links p a b (l ∷ path) =
+    Contains links l × (l.place ≢ p) × (l.giver ≡ a) × IsPath links p l.taker b path
 
 -- what the links of a path hold
 abbrev pub tokens_on : List Link → ℕ
@@ -47,13 +48,15 @@ pub record HasPath (links : List Link) (p a b most : ℕ) : Type 0 where
 abbrev pub AreWithin : ℕ → List Link → Type 0
 AreWithin n links = All (λ (l : Link). (l.giver < n) × (l.taker < n)) links
 
--- no link but that of p leads to a lesser sum
+-- each sum is least: no link but that of p leads to a lesser one
 abbrev pub AreLeast : List Link → ℕ → List ℕ → Type 0
-AreLeast links p sums = All (λ (l : Link). l.place ≢ p → slice_index sums l.taker ≤ slice_index sums l.giver + l.tokens) links
+AreLeast links p sums =
+    All (λ (l : Link). l.place ≢ p → slice_index sums l.taker ≤ slice_index sums l.giver + l.tokens) links
 
 -- each sum below `far` is that of a path from a
 abbrev pub AreReached : List Link → ℕ → ℕ → ℕ → List ℕ → Type 0
-AreReached links p a far sums = (t : ℕ) → t < length sums → slice_index sums t < far → HasPath links p a t (slice_index sums t)
+AreReached links p a far sums =
+    (t : ℕ) → t < length sums → slice_index sums t < far → HasPath links p a t (slice_index sums t)
 
 -- nothing falls along the link, or it is that of p
 pub record IsUnlowered (l : Link) (p : ℕ) (old new : List ℕ) : Type 0 where

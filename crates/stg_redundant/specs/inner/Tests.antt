@@ -20,11 +20,14 @@ sole_of (x ∷ y ∷ ys) = None
 -- whether q is another live place with the arcs of p and at most its tokens
 abbrev pub is_same_place : Graph → ℕ → ℕ → Bool
 is_same_place g p q =
-    not (p == q) && is_some (place_at g q) && nat_le (tokens_at g q) (tokens_at g p) && are_same (taking_trans g p) (taking_trans g q) && are_same (giving_trans g p) (giving_trans g q)
+    not (p == q) && is_some (place_at g q) && nat_le (tokens_at g q) (tokens_at g p)
+    && are_same (taking_trans g p) (taking_trans g q)
+    && are_same (giving_trans g p) (giving_trans g q)
 
 -- whether each transition gives to p what it takes, and p holds as much
 abbrev pub is_loop_place : Graph → ℕ → Bool
-is_loop_place g p = are_same (taking_trans g p) (giving_trans g p) && list_all (λ x. nat_le x.1 (tokens_at g p)) (taking_trans g p)
+is_loop_place g p = are_same (taking_trans g p) (giving_trans g p)
+    && list_all (λ x. nat_le x.1 (tokens_at g p)) (taking_trans g p)
 
 -- whether t gives back what it takes
 abbrev pub is_loop_dummy : Graph → ℕ → Bool
@@ -36,4 +39,6 @@ is_live_dummy g t = is_some (full_name_at g t) && not (has_signal_of g.known (fu
 
 -- whether u is another dummy with the arcs of t
 abbrev pub is_same_dummy : Graph → ℕ → ℕ → Bool
-is_same_dummy g t u = not (t == u) && is_live_dummy g u && are_same (taken_places g t) (taken_places g u) && are_same (given_places g t) (given_places g u)
+is_same_dummy g t u = not (t == u) && is_live_dummy g u
+    && are_same (taken_places g t) (taken_places g u)
+    && are_same (given_places g t) (given_places g u)
