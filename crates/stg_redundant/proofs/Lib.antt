@@ -1,4 +1,5 @@
 pub mod RuleTests
+pub mod FirstSame
 pub mod PathSums
 pub mod LinkPaths
 pub mod Examples

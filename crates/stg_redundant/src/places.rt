@@ -11,9 +11,9 @@ ghost use Rattle.stg_redundant.specs.inner.Searches.{IsFirst, IsPlaceRuleOf};
 
 use crate::chains::{Link, find_links, has_chain, link_at};
 use crate::found::{PlaceFound, PlaceRule};
-use crate::walks::{are_at_most, are_same};
+use crate::walks::{are_at_most, are_same, first_of};
 use std::alloc::Global;
-use stg_edit::Editor;
+use stg_edit::{Editor, Walk};
 use stg_net::NoMemory;
 
 /// Whether there is a live place of that number.
@@ -35,8 +35,21 @@ fn is_same(editor: &Editor, p: u32, q: u32) -> bool
         && are_same(editor.givers(p), editor.givers(q))
 }
 
-/// The least other place with the arcs of a live place and at most its tokens.
-fn find_same(editor: &Editor, p: u32) -> Option<u32>
+/// The first of these places that has the arcs of p and at most its tokens.
+fn first_same(editor: &Editor, p: u32, places: Walk<'_>) -> Option<u32>
+    requires { IsPlace editor.now.now p }
+    ensures { result ≡ tests.first_in (tests.is_same_place editor.now.now p) places.entry }
+{
+    for (q, _) in places {
+        if is_same(editor, p, q) {
+            return Some(q);
+        }
+    }
+    None
+}
+
+/// The least of all places that has the arcs of p and at most its tokens.
+fn find_same_among_all(editor: &Editor, p: u32) -> Option<u32>
     requires { IsPlace editor.now.now p }
     ensures value { IsFirst (tests.is_same_place editor.now.now p)
         (length editor.now.now.places) result }
@@ -48,6 +61,25 @@ fn find_same(editor: &Editor, p: u32) -> Option<u32>
         }
     }
     None
+}
+
+/// The least other place with the arcs of a live place and at most its tokens. It is sought among
+/// the places at a transition of p, where p has one.
+fn find_same(editor: &Editor, p: u32) -> Option<u32>
+    requires { IsPlace editor.now.now p }
+    ensures value { IsFirst (tests.is_same_place editor.now.now p)
+        (length editor.now.now.places) result }
+    ensures draft { IsDraft editor.now }
+{
+    match first_of(editor.takers(p)) {
+        Some(t) => return first_same(editor, p, editor.takes(t)),
+        None => {}
+    }
+    match first_of(editor.givers(p)) {
+        Some(t) => return first_same(editor, p, editor.gives(t)),
+        None => {}
+    }
+    find_same_among_all(editor, p)
 }
 
 /// Whether each transition gives to a live place what it takes, and the place holds as much.

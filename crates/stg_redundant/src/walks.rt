@@ -37,6 +37,16 @@ pub fn sole_of(mut walk: Walk<'_>) -> Option<u32>
     }
 }
 
+/// The first number that the walk gives.
+pub fn first_of(mut walk: Walk<'_>) -> Option<u32>
+    ensures { result ≡ tests.first_of walk.entry }
+{
+    match walk.next() {
+        None => None,
+        Some((number, _)) => Some(number),
+    }
+}
+
 /// Whether each weight of the walk is at most so much.
 pub fn are_at_most(walk: Walk<'_>, most: u32) -> bool
     ensures { result ≡ list_all (λ x. nat_le x.1 most) walk.entry }

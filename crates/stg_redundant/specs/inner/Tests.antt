@@ -17,6 +17,16 @@ sole_of [] = None
 sole_of (x ∷ []) = if x.1 == 1 then Some x.0 else None
 sole_of (x ∷ y ∷ ys) = None
 
+-- the first number of the list
+abbrev pub first_of : List (ℕ × ℕ) → Option ℕ
+first_of [] = None
+first_of (x ∷ xs) = Some x.0
+
+-- the first number of the list that passes the test
+abbrev pub first_in : (ℕ → Bool) → List (ℕ × ℕ) → Option ℕ
+first_in test [] = None
+first_in test (x ∷ xs) = if test x.0 then Some x.0 else first_in test xs
+
 -- whether q is another live place with the arcs of p and at most its tokens
 abbrev pub is_same_place : Graph → ℕ → ℕ → Bool
 is_same_place g p q =
