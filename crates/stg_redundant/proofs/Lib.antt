@@ -2,4 +2,4 @@ pub mod RuleTests
 pub mod FirstSame
 pub mod PathSums
 pub mod LinkPaths
-pub mod Examples
+mod Examples

@@ -17,15 +17,17 @@ use Rattle.stg_redundant.specs.inner.Tests.{sole_of}
 use Rattle.stg_redundant.specs.inner.Chains.{link_of, link_at, link_list, links_below, all_links, IsPath, tokens_on, HasPath, AreWithin}
 
 -- a alone has a weight, which is 1
-pub record IsSole (n : ℕ) (w : ℕ → ℕ) (a : ℕ) : Type 0 where
+record IsSole (n : ℕ) (w : ℕ → ℕ) (a : ℕ) : Type 0 where
   pub below : a < n
   pub one : w a ≡ 1
   pub alone : (t : ℕ) → t < n → t ≢ a → w t ≡ 0
 
+-- nothing is not something
 none_some : {X : Type 0} (x : X) → None ≡ Some x → ⊥
 none_some x e = absurd (cc)
 
-pub sole_is : (n : ℕ) (w : ℕ → ℕ) (a : ℕ) → sole_of (weighted n w) ≡ Some a → IsSole n w a
+-- the one number of a list with weight 1 is alone
+sole_is : (n : ℕ) (w : ℕ → ℕ) (a : ℕ) → sole_of (weighted n w) ≡ Some a → IsSole n w a
 sole_is n w a = go (weighted n w) refl
   where
     at : (xs : List (ℕ × ℕ)) → weighted n w ≡ xs → (t : ℕ) → t < n → w t ≡ weight_in t xs
@@ -48,11 +50,15 @@ sole_is n w a = go (weighted n w) refl
     ]
     go (x ∷ y ∷ xs) e s = absurd (none_some a s)
 
-none_from : (w : ℕ → ℕ) (m i : ℕ) → ((t : ℕ) → i ≤ t → t < i + m → w t ≡ 0) → weighted_from w i m ≡ []
+-- a list without weights is empty
+none_from : (w : ℕ → ℕ) (m i : ℕ) → ((t : ℕ) → i ≤ t → t < i + m → w t ≡ 0)
+    → weighted_from w i m ≡ []
 none_from w zero i none = refl
 none_from w (suc m) i none = rw (le-ltb 0 (w i) (omega (arith, none i (omega arith) (omega arith)))) (none_from w m (i + 1) (λ t l h. none t (omega (arith, l)) (omega (arith, h))))
 
-alone_from : (w : ℕ → ℕ) (a m i : ℕ) → i ≤ a → a < i + m → w a ≡ 1 → ((t : ℕ) → i ≤ t → t < i + m → t ≢ a → w t ≡ 0) → weighted_from w i m ≡ (a, 1) ∷ []
+-- a list with one weight has one element
+alone_from : (w : ℕ → ℕ) (a m i : ℕ) → i ≤ a → a < i + m → w a ≡ 1
+    → ((t : ℕ) → i ≤ t → t < i + m → t ≢ a → w t ≡ 0) → weighted_from w i m ≡ (a, 1) ∷ []
 alone_from w a zero i l h one alone = absurd (omega (arith, l, h))
 alone_from w a (suc m) i l h one alone = elim (cases_eq i a) [
   | inl e ↦
@@ -63,7 +69,8 @@ alone_from w a (suc m) i l h one alone = elim (cases_eq i a) [
       (alone_from w a m (i + 1) (elim (cases_lt i a) [ inl k ↦ omega (arith, k) | inr k ↦ absurd (n (omega (arith, k, l))) ]) (omega (arith, h)) one (λ t low high. alone t (omega (arith, low)) (omega (arith, high))))
 ]
 
-pub sole_there : (n : ℕ) (w : ℕ → ℕ) (a : ℕ) → IsSole n w a → sole_of (weighted n w) ≡ Some a
+-- and where a number is alone with weight 1, it is the one of the list
+sole_there : (n : ℕ) (w : ℕ → ℕ) (a : ℕ) → IsSole n w a → sole_of (weighted n w) ≡ Some a
 sole_there n w a s = ap sole_of (alone_from w a n 0 (omega arith) (omega (arith, s.below)) s.one (λ t l h. s.alone t (omega (arith, h))))
 
 -- a link of the graph
@@ -74,7 +81,9 @@ pub record IsLinkAt (g : Graph) (p : ℕ) (l : Link) : Type 0 where
   pub taker_below : l.taker < length g.trans
   pub link : IsLink g l.giver l.taker p
 
-pub link_is : (g : Graph) (p : ℕ) (l : Link) → IsWeightlessPastLast g → link_at g p ≡ Some l → IsLinkAt g p l
+-- what is found at a place is a link of the graph
+pub link_is : (g : Graph) (p : ℕ) (l : Link) → IsWeightlessPastLast g → link_at g p ≡ Some l
+    → IsLinkAt g p l
 link_is g p l narrow = go (sole_of (giving_trans g p)) (sole_of (taking_trans g p)) refl refl
   where
     other : (w : ℕ → ℕ) (a : ℕ) → IsSole (length g.trans) w a → ((t : ℕ) → length g.trans ≤ t → w t ≡ 0) → (t : ℕ) → t ≢ a → w t ≡ 0
@@ -102,7 +111,9 @@ link_is g p l narrow = go (sole_of (giving_trans g p)) (sole_of (taking_trans g 
     go (Some a) None x y e = absurd (none_some l e)
     go None o x y e = absurd (none_some l e)
 
-pub link_there : (g : Graph) (p a b : ℕ) → IsWeightlessPastLast g → IsLink g a b p → link_at g p ≡ Some (record { place = p; giver = a; taker = b; tokens = tokens_at g p })
+-- and a link of the graph is found at its place
+link_there : (g : Graph) (p a b : ℕ) → IsWeightlessPastLast g → IsLink g a b p
+    → link_at g p ≡ Some (record { place = p; giver = a; taker = b; tokens = tokens_at g p })
 link_there g p a b narrow k = λ i. link_of g p (giver i) (taker i)
   where
     inside : (w : ℕ → ℕ) (t : ℕ) → w t ≡ 1 → ((t : ℕ) → length g.trans ≤ t → w t ≡ 0) → t < length g.trans
@@ -123,7 +134,8 @@ no_link g p gone = go (place_at g p) refl gone
     go (Some x) e h = absurd (false≢true (sym h))
 
 -- the links of the list are those of the graph
-link_list_is : (g : Graph) (n : ℕ) → All (λ (l : Link). link_at g l.place ≡ Some l) (link_list (link_at g n))
+link_list_is : (g : Graph) (n : ℕ)
+    → All (λ (l : Link). link_at g l.place ≡ Some l) (link_list (link_at g n))
 link_list_is g n = go (link_at g n) refl
   where
     same : (l : Link) → link_at g n ≡ Some l → l.place ≡ n
@@ -138,11 +150,14 @@ link_list_is g n = go (link_at g n) refl
     go None e = All-nil (λ (l : Link). link_at g l.place ≡ Some l)
     go (Some l) e = All-cons (λ (l : Link). link_at g l.place ≡ Some l) l [] (ap (link_at g) (same l e) ∙ e) (All-nil (λ (l : Link). link_at g l.place ≡ Some l))
 
-pub links_are : (g : Graph) (n : ℕ) → All (λ (l : Link). link_at g l.place ≡ Some l) (links_below g n)
+-- each link of the list is the one at its place
+links_are : (g : Graph) (n : ℕ) → All (λ (l : Link). link_at g l.place ≡ Some l) (links_below g n)
 links_are g zero = All-nil (λ (l : Link). link_at g l.place ≡ Some l)
 links_are g (suc n) = All-append (λ (l : Link). link_at g l.place ≡ Some l) (links_below g n) (link_list (link_at g n)) (links_are g n) (link_list_is g n)
 
-pub links_have : (g : Graph) (n p : ℕ) (l : Link) → p < n → link_at g p ≡ Some l → Contains (links_below g n) l
+-- and the link at each place is in the list
+links_have : (g : Graph) (n p : ℕ) (l : Link) → p < n → link_at g p ≡ Some l
+    → Contains (links_below g n) l
 links_have g zero p l low e = absurd (omega (arith, low))
 links_have g (suc n) p l low e = elim (cases_eq p n) [
   | inl s ↦ Contains-append_right (links_below g n) (link_list (link_at g n)) l (subst (λ o. Contains (link_list o) l) (sym (ap (link_at g) (sym s) ∙ e)) (0, omega arith, refl))
@@ -150,26 +165,35 @@ links_have g (suc n) p l low e = elim (cases_eq p n) [
 ]
 
 -- an element of the links
-link_in : (g : Graph) (l : Link) → IsWeightlessPastLast g → Contains (all_links g) l → IsLinkAt g l.place l
+link_in : (g : Graph) (l : Link) → IsWeightlessPastLast g → Contains (all_links g) l
+    → IsLinkAt g l.place l
 link_in g l narrow c = link_is g l.place l narrow (subst (λ (x : Link). link_at g x.place ≡ Some x) c.2 (links_are g (length g.places) c.0 l c.1))
 
+-- both ends of each link are transitions of the graph
 pub within : (g : Graph) → IsWeightlessPastLast g → AreWithin (length g.trans) (all_links g)
 within g narrow k d low =
     let l = get_or (all_links g) k d in
     let at = link_is g l.place l narrow (links_are g (length g.places) k d low) in
     (at.giver_below, at.taker_below)
 
-chain_from : (g : Graph) (p b : ℕ) → IsWeightlessPastLast g → (path : List Link) (a : ℕ) → IsPath (all_links g) p a b path → IsChain g a b (map (λ (l : Link). l.place) path)
+-- the places of a path are a chain
+chain_from : (g : Graph) (p b : ℕ) → IsWeightlessPastLast g → (path : List Link) (a : ℕ)
+    → IsPath (all_links g) p a b path → IsChain g a b (map (λ (l : Link). l.place) path)
 chain_from g p b narrow [] a e = e
 chain_from g p b narrow (l ∷ path) a leads =
     let at = link_in g l narrow leads.0 in
     (l.taker, subst (λ x. IsLink g x l.taker l.place) leads.2 at.link, chain_from g p b narrow path l.taker leads.3)
 
-others_from : (g : Graph) (p b : ℕ) (path : List Link) (a : ℕ) → IsPath (all_links g) p a b path → All (λ q. q ≢ p) (map (λ (l : Link). l.place) path)
+-- none of them is p
+others_from : (g : Graph) (p b : ℕ) (path : List Link) (a : ℕ) → IsPath (all_links g) p a b path
+    → All (λ q. q ≢ p) (map (λ (l : Link). l.place) path)
 others_from g p b [] a e = All-nil (λ q. q ≢ p)
 others_from g p b (l ∷ path) a leads = All-cons (λ q. q ≢ p) l.place (map (λ (l : Link). l.place) path) leads.1 (others_from g p b path l.taker leads.3)
 
-sum_from : (g : Graph) (p b : ℕ) → IsWeightlessPastLast g → (path : List Link) (a : ℕ) → IsPath (all_links g) p a b path → sum_by (tokens_at g) (map (λ (l : Link). l.place) path) ≡ tokens_on path
+-- they hold what the path holds
+sum_from : (g : Graph) (p b : ℕ) → IsWeightlessPastLast g → (path : List Link) (a : ℕ)
+    → IsPath (all_links g) p a b path
+    → sum_by (tokens_at g) (map (λ (l : Link). l.place) path) ≡ tokens_on path
 sum_from g p b narrow [] a e = refl
 sum_from g p b narrow (l ∷ path) a leads = omega (
   arith,
@@ -179,7 +203,10 @@ sum_from g p b narrow (l ∷ path) a leads = omega (
   sum_from g p b narrow path l.taker leads.3,
 )
 
-pub shortcut_is : (g : Graph) (p : ℕ) (l : Link) → IsWeightlessPastLast g → link_at g p ≡ Some l → l.giver ≢ l.taker → HasPath (all_links g) l.place l.giver l.taker l.tokens → IsShortcut g p
+-- a link with a path beside it that holds at most its tokens is a shortcut
+pub shortcut_is : (g : Graph) (p : ℕ) (l : Link) → IsWeightlessPastLast g → link_at g p ≡ Some l
+    → l.giver ≢ l.taker → HasPath (all_links g) l.place l.giver l.taker l.tokens
+    → IsShortcut g p
 shortcut_is g p l narrow e differ h =
     let at = link_is g p l narrow e in record {
       giver = l.giver;
@@ -198,10 +225,13 @@ record Paths (g : Graph) (p a b : ℕ) (chain : List ℕ) : Type 0 where
   leads : IsPath (all_links g) p a b path
   same : tokens_on path ≡ sum_by (tokens_at g) chain
 
+-- a link is a place of the graph
 place_below : (g : Graph) (a b p : ℕ) → IsLink g a b p → p < length g.places
 place_below g a b p k = taken_below g b p (omega (arith, k.taken))
 
-path_from : (g : Graph) (p b : ℕ) → IsWeightlessPastLast g → (chain : List ℕ) (a : ℕ) → IsChain g a b chain → All (λ q. q ≢ p) chain → Paths g p a b chain
+-- the links of a chain are a path
+path_from : (g : Graph) (p b : ℕ) → IsWeightlessPastLast g → (chain : List ℕ) (a : ℕ)
+    → IsChain g a b chain → All (λ q. q ≢ p) chain → Paths g p a b chain
 path_from g p b narrow [] a e others = record { path = []; leads = e; same = refl }
 path_from g p b narrow (q ∷ chain) a leads others =
     let rest = path_from g p b narrow chain leads.0 leads.2 (All-tail (λ q. q ≢ p) q chain others) in
@@ -213,30 +243,42 @@ path_from g p b narrow (q ∷ chain) a leads others =
     }
 
 -- a shortcut is a link with a path
-pub shortcut_link : (g : Graph) (p : ℕ) → IsWeightlessPastLast g → (s : IsShortcut g p) → link_at g p ≡ Some (record { place = p; giver = s.giver; taker = s.taker; tokens = tokens_at g p })
+shortcut_link : (g : Graph) (p : ℕ) → IsWeightlessPastLast g → (s : IsShortcut g p)
+    → link_at g p ≡ Some (record { place = p; giver = s.giver; taker = s.taker; tokens = tokens_at g p })
 shortcut_link g p narrow s = link_there g p s.giver s.taker narrow s.link
 
-pub shortcut_path : (g : Graph) (p : ℕ) → IsWeightlessPastLast g → (s : IsShortcut g p) → HasPath (all_links g) p s.giver s.taker (tokens_at g p)
+-- beside a shortcut a path leads that holds at most its tokens
+shortcut_path : (g : Graph) (p : ℕ) → IsWeightlessPastLast g → (s : IsShortcut g p)
+    → HasPath (all_links g) p s.giver s.taker (tokens_at g p)
 shortcut_path g p narrow s =
     let x = path_from g p s.taker narrow s.chain s.giver s.leads s.apart in
     record { path = x.path; leads = x.leads; few = omega (arith, x.same, s.held) }
 
 -- the link of a shortcut is the one that is there
-shortcut_same : (g : Graph) (p : ℕ) (l : Link) → IsWeightlessPastLast g → link_at g p ≡ Some l → (s : IsShortcut g p) → record { place = p; giver = s.giver; taker = s.taker; tokens = tokens_at g p } ≡ l
+shortcut_same : (g : Graph) (p : ℕ) (l : Link) → IsWeightlessPastLast g → link_at g p ≡ Some l
+    → (s : IsShortcut g p)
+    → record { place = p; giver = s.giver; taker = s.taker; tokens = tokens_at g p } ≡ l
 shortcut_same g p l narrow e s = same_some (record { place = p; giver = s.giver; taker = s.taker; tokens = tokens_at g p }) l (sym (shortcut_link g p narrow s) ∙ e)
   where
     same_some : (x y : Link) → Some x ≡ Some y → x ≡ y
     same_some x y e = cc
 
-pub loop_no_shortcut : (g : Graph) (p : ℕ) (l : Link) → IsWeightlessPastLast g → link_at g p ≡ Some l → l.giver ≡ l.taker → IsShortcut g p → ⊥
+-- a link from a transition to itself is no shortcut
+pub loop_no_shortcut : (g : Graph) (p : ℕ) (l : Link) → IsWeightlessPastLast g
+    → link_at g p ≡ Some l → l.giver ≡ l.taker → IsShortcut g p → ⊥
 loop_no_shortcut g p l narrow e loop s =
     let same = shortcut_same g p l narrow e s in
     s.differ (ap (λ (x : Link). x.giver) same ∙ loop ∙ sym (ap (λ (x : Link). x.taker) same))
 
-pub no_link_no_shortcut : (g : Graph) (p : ℕ) → IsWeightlessPastLast g → link_at g p ≡ None → IsShortcut g p → ⊥
+-- a place that is no link is no shortcut
+pub no_link_no_shortcut : (g : Graph) (p : ℕ) → IsWeightlessPastLast g → link_at g p ≡ None
+    → IsShortcut g p → ⊥
 no_link_no_shortcut g p narrow e s = none_some (record { place = p; giver = s.giver; taker = s.taker; tokens = tokens_at g p }) (sym e ∙ shortcut_link g p narrow s)
 
-pub shortcut_there : (g : Graph) (p : ℕ) (l : Link) → IsWeightlessPastLast g → link_at g p ≡ Some l → IsShortcut g p → HasPath (all_links g) l.place l.giver l.taker l.tokens
+-- where a shortcut is, there is a path beside its link
+pub shortcut_there : (g : Graph) (p : ℕ) (l : Link) → IsWeightlessPastLast g
+    → link_at g p ≡ Some l → IsShortcut g p
+    → HasPath (all_links g) l.place l.giver l.taker l.tokens
 shortcut_there g p l narrow e s =
     let P : Link → Type 0 = λ x. HasPath (all_links g) x.place x.giver x.taker x.tokens in
     subst P (shortcut_same g p l narrow e s) (shortcut_path g p narrow s)

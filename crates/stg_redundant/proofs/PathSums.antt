@@ -7,11 +7,15 @@ use Rattle.stg_redundant.specs.declared.chains.Link.{Link}
 use Rattle.stg_redundant.specs.inner.Chains.{IsPath, tokens_on, HasPath, AreLeast, AreReached, IsUnlowered, IsLowered}
 
 -- a path that goes on along one more link
-path_last : (links : List Link) (p a : ℕ) (l : Link) (path : List Link) → IsPath links p a l.giver path → Contains links l → l.place ≢ p → IsPath links p a l.taker (path ++ l ∷ [])
+path_last : (links : List Link) (p a : ℕ) (l : Link) (path : List Link)
+    → IsPath links p a l.giver path → Contains links l → l.place ≢ p
+    → IsPath links p a l.taker (path ++ l ∷ [])
 path_last links p a l [] e c other = (c, other, sym e, refl)
 path_last links p a l (x ∷ path) leads c other = (leads.0, leads.1, leads.2, path_last links p x.taker l path leads.3 c other)
 
-longer : (links : List Link) (p a : ℕ) (l : Link) (most : ℕ) → HasPath links p a l.giver most → Contains links l → l.place ≢ p → HasPath links p a l.taker (most + l.tokens)
+-- a path that goes on holds the tokens of the link besides
+longer : (links : List Link) (p a : ℕ) (l : Link) (most : ℕ) → HasPath links p a l.giver most
+    → Contains links l → l.place ≢ p → HasPath links p a l.taker (most + l.tokens)
 longer links p a l most h c other = record {
   path = h.path ++ l ∷ [];
   leads = path_last links p a l h.path h.leads c other;
@@ -29,19 +33,10 @@ pub record Lowering (links : List Link) (p : ℕ) (old : List ℕ) (i : ℕ) (fe
   pub reached : (a far : ℕ) → AreReached links p a far old → AreReached links p a far now
   pub start : (a : ℕ) → get_or old a 0 ≡ 0 → get_or now a 0 ≡ 0
 
-pub lowering_starts : (links : List Link) (p : ℕ) (old : List ℕ) → All (λ sum. sum ≤ 2 ^ 32) old → Lowering links p old 0 false old
-lowering_starts links p old small = record {
-  long = refl;
-  small = small;
-  same = λ e. refl;
-  least = λ e k d low. absurd (omega (arith, low));
-  fallen = λ e. absurd (false≢true e);
-  no_more = omega arith;
-  reached = λ a far r. r;
-  start = λ a e. e;
-}
-
-pub lowering-unlowered : (links : List Link) (p : ℕ) (old now new : List ℕ) (i : ℕ) (fell : Bool) (l : Link) → get_or links i l ≡ l → IsUnlowered l p now new → Lowering links p old i fell now → Lowering links p old (i + 1) fell new
+-- a link along which nothing falls keeps it so
+pub lowering-unlowered : (links : List Link) (p : ℕ) (old now new : List ℕ) (i : ℕ) (fell : Bool) (l : Link)
+    → get_or links i l ≡ l → IsUnlowered l p now new → Lowering links p old i fell now
+    → Lowering links p old (i + 1) fell new
 lowering-unlowered links p old now new i fell l at kept w = subst (Lowering links p old (i + 1) fell) (sym kept.same) (record {
   long = w.long;
   small = w.small;
@@ -60,13 +55,18 @@ lowering-unlowered links p old now new i fell l at kept w = subst (Lowering link
   start = w.start;
 })
 
-set_small : (xs : List ℕ) (t v : ℕ) → v ≤ 2 ^ 32 → All (λ sum. sum ≤ 2 ^ 32) xs → All (λ sum. sum ≤ 2 ^ 32) (set xs t v)
+-- a small number in place of another leaves all small
+set_small : (xs : List ℕ) (t v : ℕ) → v ≤ 2 ^ 32 → All (λ sum. sum ≤ 2 ^ 32) xs
+    → All (λ sum. sum ≤ 2 ^ 32) (set xs t v)
 set_small xs t v few small k d low = elim (cases_eq k t) [
   | inl e ↦ subst (λ j. get_or (set xs t v) j d ≤ 2 ^ 32) (sym e) (omega (arith, few, get_or-set_same xs t v d (omega (arith, low, e, length-set xs t v))))
   | inr n ↦ omega (arith, get_or-set_other xs t k v d n, small k d (omega (arith, low, length-set xs t v)))
 ]
 
-pub lowering-lowered : (links : List Link) (p : ℕ) (old now new : List ℕ) (i : ℕ) (fell : Bool) (l : Link) → Contains links l → l.giver < length now → l.taker < length now → IsLowered l p now new → Lowering links p old i fell now → Lowering links p old (i + 1) true new
+-- and so does a link at whose end the sum falls
+pub lowering-lowered : (links : List Link) (p : ℕ) (old now new : List ℕ) (i : ℕ) (fell : Bool) (l : Link)
+    → Contains links l → l.giver < length now → l.taker < length now → IsLowered l p now new
+    → Lowering links p old i fell now → Lowering links p old (i + 1) true new
 lowering-lowered links p old now new i fell l there from to f w =
     let v = get_or now l.giver 0 + l.tokens in
     let less : sum_by (λ x. x) (set now l.taker v) < sum_by (λ x. x) now = omega (arith, sum_by-set (λ x. x) now l.taker v 0 to, f.lower) in
@@ -97,7 +97,9 @@ lowering-lowered links p old now new i fell l there from to f w =
         subst (λ j. HasPath links p a j (get_or (set now l.taker v) t 0)) (sym e) (subst (HasPath links p a l.taker) (sym is) path)
 
 -- where nothing falls any more, no path has a lesser sum
-pub least_path : (links : List Link) (p : ℕ) (sums : List ℕ) (b : ℕ) (path : List Link) (a : ℕ) → AreLeast links p sums → IsPath links p a b path → get_or sums b 0 ≤ get_or sums a 0 + tokens_on path
+least_path : (links : List Link) (p : ℕ) (sums : List ℕ) (b : ℕ) (path : List Link) (a : ℕ)
+    → AreLeast links p sums → IsPath links p a b path
+    → get_or sums b 0 ≤ get_or sums a 0 + tokens_on path
 least_path links p sums b [] a least e = omega (arith, ap (λ j. get_or sums j 0) e)
 least_path links p sums b (l ∷ path) a least leads =
     let c = leads.0 in
@@ -106,20 +108,27 @@ least_path links p sums b (l ∷ path) a least leads =
     omega (arith, here leads.1, ap (λ j. get_or sums j 0) leads.2, least_path links p sums b path l.taker least leads.3, sum_by-cons (λ (x : Link). x.tokens) l path)
 
 -- at first the sum is 0 at a alone
-pub starting : (links : List Link) (p a far : ℕ) (sums : List ℕ) → All (λ sum. sum ≡ far) sums → AreReached links p a far (set sums a 0)
+pub starting : (links : List Link) (p a far : ℕ) (sums : List ℕ) → All (λ sum. sum ≡ far) sums
+    → AreReached links p a far (set sums a 0)
 starting links p a far sums all t low fits = elim (cases_eq t a) [
   | inl e ↦ record { path = []; leads = sym e; few = omega arith }
   | inr n ↦ absurd (omega (arith, fits, get_or-set_other sums a t 0 0 n, all t 0 (omega (arith, low, length-set sums a 0))))
 ]
 
-pub starting_small : (a far : ℕ) (sums : List ℕ) → far ≤ 2 ^ 32 → All (λ sum. sum ≡ far) sums → All (λ sum. sum ≤ 2 ^ 32) (set sums a 0)
+-- and all sums are small
+pub starting_small : (a far : ℕ) (sums : List ℕ) → far ≤ 2 ^ 32 → All (λ sum. sum ≡ far) sums
+    → All (λ sum. sum ≤ 2 ^ 32) (set sums a 0)
 starting_small a far sums small all = set_small sums a 0 (omega arith) (λ k d low. omega (arith, all k d low, small))
 
 -- what the least sums say
-pub found_path : (links : List Link) (p a b most : ℕ) (sums : List ℕ) → AreReached links p a (most + 1) sums → b < length sums → get_or sums b 0 < most + 1 → HasPath links p a b most
+pub found_path : (links : List Link) (p a b most : ℕ) (sums : List ℕ)
+    → AreReached links p a (most + 1) sums → b < length sums → get_or sums b 0 < most + 1
+    → HasPath links p a b most
 found_path links p a b most sums reached there low =
     let h = reached b there low in
     record { path = h.path; leads = h.leads; few = omega (arith, h.few, low) }
 
-pub path_found : (links : List Link) (p a b most : ℕ) (sums : List ℕ) → AreLeast links p sums → get_or sums a 0 ≡ 0 → HasPath links p a b most → get_or sums b 0 < most + 1
+-- where a path holds at most so much, the sum at its end is within reach
+pub path_found : (links : List Link) (p a b most : ℕ) (sums : List ℕ) → AreLeast links p sums
+    → get_or sums a 0 ≡ 0 → HasPath links p a b most → get_or sums b 0 < most + 1
 path_found links p a b most sums least start h = omega (arith, least_path links p sums b h.path a least h.leads, start, h.few)

@@ -15,6 +15,7 @@ link_of g p None o = None
 abbrev pub link_at : Graph → ℕ → Option Link
 link_at g p = link_of g p (sole_of (giving_trans g p)) (sole_of (taking_trans g p))
 
+-- the list of that link, or of none
 abbrev pub link_list : Option Link → List Link
 link_list None = []
 link_list (Some l) = l ∷ []
