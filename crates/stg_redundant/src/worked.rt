@@ -9,7 +9,7 @@ use stg_edit::Editor;
 use stg_net::{Edge, Kind, Net, NetArc, NoMemory, Seq, Signal, TransName};
 
 fn make_signals(alloc: Global, names: &[&[u8]]) -> Result<Seq<Signal>, NoMemory>
-    ensures { IfOk result (λ list. list ≡ map worked.input (worked.texts names.now)) }
+    ensures { IfOk result (λ list. list ≡ map worked.input (worked.lent_texts names.now)) }
 {
     let mut list = Seq::new(alloc);
     for name in names {
@@ -22,7 +22,7 @@ fn make_signals(alloc: Global, names: &[&[u8]]) -> Result<Seq<Signal>, NoMemory>
 }
 
 fn make_trans(alloc: Global, table: &[(u32, Edge, u32)]) -> Result<Seq<TransName>, NoMemory>
-    ensures { IfOk result (λ list. list ≡ map worked.full_name table.now) }
+    ensures { IfOk result (λ list. list ≡ map worked.named_trans table.now) }
 {
     let mut list = Seq::new(alloc);
     for (signal, edge, index) in table {
@@ -58,9 +58,9 @@ fn make_net(
     tokens: &[u32],
     arcs: &[(u32, u32, bool, u32)],
 ) -> Result<Net, NoMemory>
-    requires labels { worked.are_labels (worked.texts names.now) trans.now ≡ true }
+    requires labels { worked.are_labels (worked.lent_texts names.now) trans.now ≡ true }
     requires arcs { worked.are_arcs (length trans.now) tokens.now arcs.now ≡ true }
-    ensures { IfOk result (λ n. n ≡ worked.net (worked.texts names.now) trans.now tokens.now arcs.now) }
+    ensures { IfOk result (λ n. n ≡ worked.net (worked.lent_texts names.now) trans.now tokens.now arcs.now) }
 {
     Ok(Net::of(
         make_signals(alloc, names)?,
@@ -79,7 +79,7 @@ pub fn make_editor(
     arcs: &[(u32, u32, bool, u32)],
     known: &[u32],
 ) -> Result<Editor, NoMemory>
-    requires labels { worked.are_labels (worked.texts names.now) trans.now ≡ true }
+    requires labels { worked.are_labels (worked.lent_texts names.now) trans.now ≡ true }
     requires arcs { worked.are_arcs (length trans.now) tokens.now arcs.now ≡ true }
     requires known { All (λ s. s < length names.now) known.now }
 {
