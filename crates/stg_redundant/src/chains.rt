@@ -112,28 +112,14 @@ fn lower_to_least(sums: &mut [u64], links: &[Link], skip: u32)
 }
 
 /// Whether links but that of the place lead from one transition to the other with at most so many
-/// tokens.
-pub fn has_chain(alloc: Global, links: &[Link], trans: u32, link: Link) -> Result<bool, NoMemory>
-    requires within { chains.AreWithin trans links.now }
-    requires giver { link.giver < trans }
-    requires taker { link.taker < trans }
-    ensures { IfOk result (λ yes. IsTrue yes
-        ↔ chains.HasPath links.now link.place link.giver link.taker link.tokens) }
-{
-    let far = link.tokens as u64 + 1;
-    let mut sums = vec![in alloc; far; trans as usize]?;
-    Ok(is_reached(&mut sums, links, link))
-}
-
-/// Whether the sum along links but that of the place is within reach, where all sums begin out of
-/// it.
-fn is_reached(sums: &mut [u64], links: &[Link], link: Link) -> bool
+/// tokens. The sums, one for each transition, are set anew.
+pub fn has_chain(sums: &mut [u64], links: &[Link], link: Link) -> bool
     requires within { chains.AreWithin (length sums.old) links.now }
     requires giver { link.giver < length sums.old }
     requires taker { link.taker < length sums.old }
-    requires far { All (λ sum. sum ≡ link.tokens + 1) sums.old }
-    ensures { IsTrue result
+    ensures value { IsTrue result
         ↔ chains.HasPath links.now link.place link.giver link.taker link.tokens }
+    ensures len { length sums.new ≡ length sums.old }
 {
     let far = link.tokens as u64 + 1;
     start(sums, link.giver, far);
@@ -144,7 +130,6 @@ fn is_reached(sums: &mut [u64], links: &[Link], link: Link) -> bool
 /// The sums begin: 0 at one transition, and out of reach at all others.
 fn start(sums: &mut [u64], from: u32, far: u64)
     requires from { from < length sums.old }
-    requires far { All (λ sum. sum ≡ far) sums.old }
     requires small { far ≤ 2 ^ 32 }
     ensures len { length sums.new ≡ length sums.old }
     ensures small { All (λ sum. sum ≤ 2 ^ 32) sums.new }
@@ -152,5 +137,6 @@ fn start(sums: &mut [u64], from: u32, far: u64)
         → chains.AreReached links p from far sums.new }
     ensures start { slice_index sums.new from ≡ 0 }
 {
+    sums.fill(far);
     sums[from as usize] = 0;
 }

@@ -91,45 +91,43 @@ fn is_loop(editor: &Editor, p: u32) -> bool
 }
 
 /// Whether a chain of other places leads where a live place leads, with at most its tokens.
-fn is_shortcut(alloc: Global, editor: &Editor, links: &[Link], p: u32) -> Result<bool, NoMemory>
+fn is_shortcut(editor: &Editor, links: &[Link], sums: &mut [u64], p: u32) -> bool
     requires live { IsPlace editor.now.now p }
     requires links { links.now ≡ all_links editor.now.now }
-    ensures { IfOk result (λ yes. IsTrue yes ↔ IsShortcut editor.now.now p) }
+    requires sums { length sums.old ≡ length editor.now.now.trans }
+    ensures value { IsTrue result ↔ IsShortcut editor.now.now p }
+    ensures len { length sums.new ≡ length sums.old }
 {
     match link_at(editor, p) {
-        None => Ok(false),
+        None => false,
         Some(link) => {
             if link.giver == link.taker {
-                return Ok(false);
+                return false;
             }
-            let found = has_chain(alloc, links, editor.all_trans(), link)?;
-            Ok(found)
+            has_chain(sums, links, link)
         }
     }
 }
 
 /// The first rule by which a live place is redundant.
-fn rule_of(
-    alloc: Global,
-    editor: &Editor,
-    links: &[Link],
-    p: u32,
-) -> Result<Option<PlaceRule>, NoMemory>
+fn rule_of(editor: &Editor, links: &[Link], sums: &mut [u64], p: u32) -> Option<PlaceRule>
     requires live { IsPlace editor.now.now p }
     requires links { links.now ≡ all_links editor.now.now }
-    ensures { IfOk result (λ rule. IsPlaceRuleOf editor.now.now p rule) }
+    requires sums { length sums.old ≡ length editor.now.now.trans }
+    ensures value { IsPlaceRuleOf editor.now.now p result }
+    ensures len { length sums.new ≡ length sums.old }
 {
     match find_same(editor, p) {
-        Some(q) => return Ok(Some(PlaceRule::Same(q))),
+        Some(q) => return Some(PlaceRule::Same(q)),
         None => {}
     }
     if is_loop(editor, p) {
-        return Ok(Some(PlaceRule::Loop));
+        return Some(PlaceRule::Loop);
     }
-    if is_shortcut(alloc, editor, links, p)? {
-        return Ok(Some(PlaceRule::Shortcut));
+    if is_shortcut(editor, links, sums, p) {
+        return Some(PlaceRule::Shortcut);
     }
-    Ok(None)
+    None
 }
 
 /// The redundant place of greatest number, with its first rule.
@@ -137,9 +135,10 @@ pub fn redundant_place(alloc: Global, editor: &Editor) -> Result<Option<PlaceFou
     ensures { IfOk result (λ found. IsPlaceFound editor.now.now found) }
 {
     let links = find_links(alloc, editor)?;
+    let mut sums = vec![in alloc; 0u64; editor.all_trans() as usize]?;
     for p in (0..editor.next_place()).rev() {
         if has_place(editor, p) {
-            match rule_of(alloc, editor, &links, p)? {
+            match rule_of(editor, &links, &mut sums, p) {
                 Some(rule) => return Ok(Some(PlaceFound { place: p, rule })),
                 None => {}
             }

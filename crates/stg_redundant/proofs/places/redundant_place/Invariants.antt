@@ -1,6 +1,9 @@
-use Rattle.std.proofs.Common.{◌<◌, ℕ}
+use Rattle.std.proofs.Common.{◌<◌, ◌≡◌, ℕ, length}
 use Rattle.stg_laws.specs.RedundantPlaces.{IsRedundantPlace}
 use Rattle.stg_redundant.proofs.places.redundant_place.Given as goal
 
 abbrev pub invariant-loop-p : goal.invariant-loop-p
-invariant-loop-p l = (q : ℕ) → IsRedundantPlace l.editor.now q → q < l.p
+invariant-loop-p l = record {
+  rest : (q : ℕ) → IsRedundantPlace l.editor.now q → q < l.p;
+  long : length l.sums.items ≡ length l.editor.now.trans;
+}
