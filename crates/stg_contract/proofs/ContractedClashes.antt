@@ -12,7 +12,8 @@ use Rattle.stg_laws.proofs.ContractionLaws.{rivals_before}
 use Rattle.stg_laws.proofs.Names.{live_from}
 use Rattle.stg_contract.specs.Verdicts.{AreClashing}
 use Rattle.stg_contract.specs.inner.Searches.{IsLeastClashOf, ordered_rivals, least_round, least_at_left}
-use Rattle.stg_contract.proofs.WeightLists.{Found, one_to, one_from, taken_is_place, given_is_place}
+use Rattle.stg_edit.proofs.LiveEnds.{taken_is_place, given_is_place}
+use Rattle.stg_contract.proofs.WeightLists.{Found, one_to, one_from}
 use Rattle.stg_contract.proofs.DummyTests.{taken_below, given_below, live_below}
 use Rattle.stg_contract.proofs.LeftPlaces.{IsLeft, left_found, left_there, left_stands}
 use Rattle.stg_contract.proofs.LeastSearch.{IsLeastOf, OrOne, OrAtLeft, Clashes, ClashesIn, ClashesAt, ClashesAfter, AtLeft, least_before-is, least_left_below-is, least_same}

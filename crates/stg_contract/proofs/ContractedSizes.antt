@@ -17,7 +17,8 @@ use Rattle.stg_laws.specs.Secure.{IsPureOrdinary}
 use Rattle.stg_contract.specs.Verdicts.{IsWithinLimits}
 use Rattle.stg_contract.specs.inner.Weights.{arc_weight, trans_round, weight_in}
 use Rattle.stg_contract.specs.inner.Sums.{is_heavy, is_heavy_at, is_large_pair, is_large_after, is_large_round, is_past, is_large_at, HasLargePlace}
-use Rattle.stg_contract.proofs.WeightLists.{weight_in-weighted, taken_is_place, given_is_place}
+use Rattle.stg_edit.proofs.LiveEnds.{taken_is_place, given_is_place}
+use Rattle.stg_contract.proofs.WeightLists.{weight_in-weighted}
 use Rattle.stg_contract.proofs.DummyTests.{any_at, any_from, taken_below, given_below}
 use Rattle.stg_contract.proofs.LeftPlaces.{IsLeft, HasPair, StandsFor, left_found, left_there, left_stands}
 

@@ -15,7 +15,7 @@ use Rattle.stg_arena.proofs.Incidence.{weighted_same}
 use Rattle.stg_contract.specs.Verdicts.{count_places}
 use Rattle.stg_contract.specs.inner.Tests.{is_kept}
 use Rattle.stg_contract.specs.inner.Counts.{arcs_at_each, arcs_round, arcs_kept}
-use Rattle.stg_contract.proofs.WeightLists.{taken_is_place, given_is_place}
+use Rattle.stg_edit.proofs.LiveEnds.{taken_is_place, given_is_place}
 
 sum_map : {X Y : Type 0} (h : Y → ℕ) (f : X → Y) (xs : List X) → sum_by h (map f xs) ≡ sum_by (λ x. h (f x)) xs
 sum_map h f [] = refl

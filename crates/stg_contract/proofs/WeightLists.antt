@@ -1,12 +1,10 @@
 -- What stands in the lists that walks give.
-use Rattle.std.proofs.Common.{◌≡◌, ◌<◌, ◌≤◌, ◌+◌, ◌⊎◌, ℕ, zero, suc, Bool, true, false, List, [], ◌∷◌, length, eq-eqb, is_some, Option, Some, None, All, refl, sym, ap, ◌∙◌, subst, inl, inr, arith}
+use Rattle.std.proofs.Common.{◌≡◌, ◌<◌, ◌≤◌, ◌+◌, ◌⊎◌, ℕ, zero, suc, Bool, true, false, List, [], ◌∷◌, eq-eqb, is_some, All, refl, sym, ap, ◌∙◌, subst, inl, inr, arith}
 use Rattle.std.specs.List.{list_all, list_any}
 use Rattle.std.proofs.lemmas.Bool.{cases_lt, cases_eq, cases_Bool, ne_eqb, lt-ltb, le-ltb, false≢true}
 use Rattle.std.proofs.lemmas.List.Elements.{All-nil, All-cons, All-head, All-tail}
-use Rattle.stg_net.specs.Graph.{Graph, Place, IsPlace, IsTrans, place_at, full_name_at, taken_by, given_by, takes, gives}
-use Rattle.stg_edit.specs.Walks.{taken_places, given_places, taking_trans, giving_trans}
+use Rattle.stg_net.specs.Graph.{Graph, IsPlace, IsTrans, full_name_at}
 use Rattle.stg_arena.specs.WalkItems.{weighted_from}
-use Rattle.stg_edit.specs.Drafts.{IsWeightlessWhereRemoved}
 use Rattle.stg_contract.specs.inner.Weights.{weight_in, ArePlaces, AreTrans}
 
 -- P holds of one of the elements
@@ -99,31 +97,7 @@ one_not_all f (x ∷ xs) (inr o) = elim (cases_Bool (f x)) [
   | inr h ↦ rw h refl
 ]
 
--- what has a weight is live
-pub taken_is_place : (g : Graph) (t p : ℕ) → 0 < takes g t p → IsPlace g p
-taken_is_place g t p = go (place_at g p)
-  where
-    go : (o : Option Place) → 0 < taken_by t o → is_some o ≡ true
-    go None h = absurd (omega (arith, h))
-    go (Some x) h = refl
-
--- so has what gives to it
-pub given_is_place : (g : Graph) (t p : ℕ) → 0 < gives g t p → IsPlace g p
-given_is_place g t p = go (place_at g p)
-  where
-    go : (o : Option Place) → 0 < given_by t o → is_some o ≡ true
-    go None h = absurd (omega (arith, h))
-    go (Some x) h = refl
-
--- the places from which t takes are live
-pub taken_live : (g : Graph) (t : ℕ) → ArePlaces g (taken_places g t)
-taken_live g t = each_from (λ (x : ℕ × ℕ). IsPlace g x.0) (takes g t) (length g.places) 0 (λ k l r some. taken_is_place g t k some)
-
--- and those to which it gives
-pub given_live : (g : Graph) (t : ℕ) → ArePlaces g (given_places g t)
-given_live g t = each_from (λ (x : ℕ × ℕ). IsPlace g x.0) (gives g t) (length g.places) 0 (λ k l r some. given_is_place g t k some)
-
--- so are those that are left of a list
+-- places that are left of a list of live ones are live
 pub live_later : (g : Graph) (x : ℕ × ℕ) (all rest : List (ℕ × ℕ)) → all ≡ x ∷ rest → ArePlaces g all
     → ArePlaces g rest
 live_later g x all rest e live = All-tail (λ (x : ℕ × ℕ). IsPlace g x.0) x rest (subst (ArePlaces g) e live)
@@ -151,19 +125,11 @@ weight_in-weighted w (suc m) a k l r = elim (cases_eq a k) [
       | inr none ↦ rw (le-ltb 0 (w a) none) (past w m (a + 1) k (omega (arith, h)))
     ]
 
--- so are the transitions that take from a place or give to it
+-- a transition with a weight is live, where those that aren't live have none
 pub live_where : (g : Graph) (u : ℕ) (w : ℕ) → 0 < w → (is_some (full_name_at g u) ≡ false → w ≡ 0) → IsTrans g u
 live_where g u w some none = elim (cases_Bool (is_some (full_name_at g u))) [ inl h ↦ h | inr h ↦ absurd (omega (arith, some, none h)) ]
 
--- the transitions that take from a place are live
-pub taking_live : (g : Graph) (p : ℕ) → IsWeightlessWhereRemoved g → AreTrans g (taking_trans g p)
-taking_live g p weightless = each_from (λ (x : ℕ × ℕ). IsTrans g x.0) (λ t. takes g t p) (length g.trans) 0 (λ k l r some. live_where g k (takes g k p) some (λ gone. (weightless k p (omega (arith, r)) gone).0))
-
--- and those that give to it
-pub giving_live : (g : Graph) (p : ℕ) → IsWeightlessWhereRemoved g → AreTrans g (giving_trans g p)
-giving_live g p weightless = each_from (λ (x : ℕ × ℕ). IsTrans g x.0) (λ t. gives g t p) (length g.trans) 0 (λ k l r some. live_where g k (gives g k p) some (λ gone. (weightless k p (omega (arith, r)) gone).1))
-
--- so are those that are left of a list
+-- transitions that are left of a list of live ones are live
 pub trans_later : (g : Graph) (x : ℕ × ℕ) (all rest : List (ℕ × ℕ)) → all ≡ x ∷ rest → AreTrans g all
     → AreTrans g rest
 trans_later g x all rest e live = All-tail (λ (x : ℕ × ℕ). IsTrans g x.0) x rest (subst (AreTrans g) e live)

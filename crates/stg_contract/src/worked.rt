@@ -144,7 +144,8 @@ pub fn contract_told(editor: &mut Editor, t: u32) -> Result<bool, NoMemory>
 /// Contracts each of these transitions in order, as far as it may be contracted, and tells whether
 /// each was.
 pub fn contract_each(editor: &mut Editor, trans: &[u32]) -> Result<bool, NoMemory>
-    ensures { IfOk result (λ d. IsTrue d → worked.MadeEdits editor.old editor.new (length trans.now)) }
+    ensures { IfOk result (λ d. IsTrue d
+        → worked.MadeEdits editor.old editor.new (length trans.now)) }
 {
     for t in trans {
         if !contract_told(editor, *t)? {

@@ -12,7 +12,8 @@ use Rattle.stg_laws.specs.RedundantPlaces.{IsSamePlace, IsLoopPlace, IsShortcut,
 use Rattle.stg_laws.specs.RedundantDummies.{IsLoopDummy, IsSameDummy, IsRedundantDummy, loop_dummy, same_dummy}
 use Rattle.stg_laws.proofs.Origins.{takes-past, gives-past}
 use Rattle.stg_contract.specs.inner.Weights.{weight_in}
-use Rattle.stg_contract.proofs.WeightLists.{weight_in-weighted, taken_is_place}
+use Rattle.stg_edit.proofs.LiveEnds.{taken_is_place}
+use Rattle.stg_contract.proofs.WeightLists.{weight_in-weighted}
 use Rattle.stg_contract.proofs.DummyTests.{all_at, not_all_at, live_below}
 use Rattle.stg_redundant.specs.inner.Tests.{are_same, is_same_place, is_loop_place, is_loop_dummy, is_live_dummy, is_same_dummy}
 

@@ -60,7 +60,8 @@ fn make_net(
 ) -> Result<Net, NoMemory>
     requires labels { worked.are_labels (worked.lent_texts names.now) trans.now ≡ true }
     requires arcs { worked.are_arcs (length trans.now) tokens.now arcs.now ≡ true }
-    ensures { IfOk result (λ n. n ≡ worked.net (worked.lent_texts names.now) trans.now tokens.now arcs.now) }
+    ensures { IfOk result (λ n.
+        n ≡ worked.net (worked.lent_texts names.now) trans.now tokens.now arcs.now) }
 {
     Ok(Net::of(
         make_signals(alloc, names)?,
@@ -90,7 +91,8 @@ pub fn make_editor(
 
 /// Contracts a transition where it is a dummy and its verdict allows it, and tells whether it did.
 pub fn contract_told(editor: &mut Editor, t: u32) -> Result<bool, NoMemory>
-    ensures { IfOk result (λ done. IsTrue done → length editor.new.past ≡ length editor.old.past + 1) }
+    ensures { IfOk result (λ done. IsTrue done
+        → length editor.new.past ≡ length editor.old.past + 1) }
 {
     if !editor.is_trans(t) || !editor.is_dummy(t) {
         return Ok(false);
@@ -112,7 +114,8 @@ pub fn contract_told(editor: &mut Editor, t: u32) -> Result<bool, NoMemory>
 /// Contracts each of these transitions in order, as far as it may be contracted, and tells whether
 /// each was.
 pub fn contract_each(editor: &mut Editor, trans: &[u32]) -> Result<bool, NoMemory>
-    ensures { IfOk result (λ done. IsTrue done → length editor.new.past ≡ length editor.old.past + length trans.now) }
+    ensures { IfOk result (λ done. IsTrue done
+        → length editor.new.past ≡ length editor.old.past + length trans.now) }
 {
     for t in trans {
         if !contract_told(editor, *t)? {

@@ -1,15 +1,13 @@
-use Rattle.std.proofs.Common.{ap, sym, subst, arith}
-use Rattle.stg_contract.specs.inner.Weights.{ArePlaces}
+use Rattle.std.proofs.Common.{ap, arith}
 use Rattle.stg_contract.specs.inner.Counts.{arcs_at_each}
-use Rattle.stg_contract.proofs.WeightLists.{taken_live, given_live}
 use Rattle.stg_contract.proofs.PlaceSums.{arcs_split}
 use Rattle.stg_contract.proofs.arcs.arcs_but_round.Goals as goal
 
 pub arcs_at_each-before-requires : goal.arcs_at_each-before-requires
-arcs_at_each-before-requires c = subst (ArePlaces c.args.editor.now.now) (sym c.takes.ensures.value) (taken_live c.args.editor.now.now c.args.t)
+arcs_at_each-before-requires c = c.takes.ensures.live
 
 pub arcs_at_each-after-requires : goal.arcs_at_each-after-requires
-arcs_at_each-after-requires c = subst (ArePlaces c.args.editor.now.now) (sym c.gives.ensures.value) (given_live c.args.editor.now.now c.args.t)
+arcs_at_each-after-requires c = c.gives.ensures.live
 
 pub overflow_sub-result : goal.overflow_sub-result
 overflow_sub-result c =

@@ -1,20 +1,20 @@
-use Rattle.std.proofs.Common.{rules, ℕ, ap, sym, subst, ◌∙◌, arith}
+use Rattle.std.proofs.Common.{rules, ℕ, ap, sym, subst, arith}
 use Rattle.stg_contract.specs.inner.Weights.{ArePlaces}
 use Rattle.stg_contract.specs.inner.Counts as counts
-use Rattle.stg_contract.proofs.WeightLists.{live_later, taken_live, given_live}
+use Rattle.stg_contract.proofs.WeightLists.{live_later}
 use Rattle.std.proofs.lemmas.List.Sums.{sum_by-cons}
 use Rattle.stg_edit.specs.Walks.{given_places}
 use Rattle.stg_contract.proofs.arcs.arcs_round.Goals as goal
 
 pub loop-p-init : goal.loop-p-init
 loop-p-init c = record {
-  live = subst (ArePlaces c.args.editor.now.now) (sym (c.into_iter-p-iterator.ensures.into_iter_gives ∙ c.takes-p-items.ensures.value)) (taken_live c.args.editor.now.now c.args.t);
+  live = subst (ArePlaces c.args.editor.now.now) (sym c.into_iter-p-iterator.ensures.into_iter_gives) c.takes-p-items.ensures.live;
   left = search rules;
   few = search rules;
 }
 
 pub arcs_with_each-requires-clause-places : goal.arcs_with_each-requires-clause-places
-arcs_with_each-requires-clause-places c = subst (ArePlaces c.args.editor.now.now) (sym c.gives.ensures.value) (given_live c.args.editor.now.now c.args.t)
+arcs_with_each-requires-clause-places c = c.gives.ensures.live
 
 pub loop-p-preserved : goal.loop-p-preserved
 loop-p-preserved c = record {

@@ -1,16 +1,16 @@
-use Rattle.std.proofs.Common.{rules, ◌∙◌, sym, subst}
+use Rattle.std.proofs.Common.{rules, sym, subst}
 use Rattle.stg_contract.specs.inner.Weights.{AreTrans}
-use Rattle.stg_contract.proofs.WeightLists.{trans_first, trans_later, taking_live}
+use Rattle.stg_contract.proofs.WeightLists.{trans_first, trans_later}
 use Rattle.stg_contract.proofs.clash.least_between.Goals as goal
 
 pub loop-u-init : goal.loop-u-init
 loop-u-init c = record {
-  live = subst (AreTrans c.args.editor.now.now) (sym (c.into_iter-u-iterator.ensures.into_iter_gives ∙ c.takers-u-items.ensures.value)) (taking_live c.args.editor.now.now c.args.p c.takers-u-items.ensures.draft.weightless);
+  live = subst (AreTrans c.args.editor.now.now) (sym c.into_iter-u-iterator.ensures.into_iter_gives) c.takers-u-items.ensures.live;
   left = search rules;
 }
 
 pub least_with-least-requires-clause-others : goal.least_with-least-requires-clause-others
-least_with-least-requires-clause-others c = subst (AreTrans c.args.editor.now.now) (sym c.takers.ensures.value) (taking_live c.args.editor.now.now c.args.q c.takers.ensures.draft.weightless)
+least_with-least-requires-clause-others c = c.takers.ensures.live
 
 pub loop-u-preserved : goal.loop-u-preserved
 loop-u-preserved c = record {
