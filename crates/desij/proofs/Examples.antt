@@ -6,7 +6,7 @@ use Rattle.astg_write.specs.ComponentText.{component_text}
 use Rattle.stg_net.specs.declared.limits.TheConstants.Limits.{SPEC}
 use Rattle.astg_read.specs.declared.rule.Rule.TheVariants.{NoGraph}
 use Rattle.astg_read.specs.Reading.{Meaning, Fault, reading}
-use Rattle.stg_partition.specs.declared.group.Group.{Group}
+use Rattle.stg_laws.specs.PlainGroups.{Group}
 use Rattle.stg_decomp.specs.declared.part.Part.{Part}
 use Rattle.stg_decomp.specs.Parts.{nets_of, parts_of}
 use Rattle.desij.specs.Files.{part_name, net_bytes}

@@ -8,7 +8,7 @@ use Rattle.stg_net.specs.Words.{trans_word}
 use Rattle.stg_laws.specs.Conflict.{HasNoAutoConflict}
 use Rattle.stg_laws.specs.Faithful.{AreComponents}
 use Rattle.stg_conflict.specs.declared.clash.Clash.{Clash}
-use Rattle.stg_conflict.specs.Clash.{IsLeastClash}
+use Rattle.stg_laws.specs.Conflict.{IsLeastClash}
 use Rattle.astg_read.specs.declared.rule.Rule.{Rule}
 use Rattle.astg_read.specs.Standing.{StandsFor, IsUnread}
 use Rattle.astg_write.specs.ReadsBack.{AreReadBack}
@@ -46,7 +46,7 @@ pub record IsRefusedByClash (text line : List ℕ) : Type 0 where
   pub spec : SpecLists
   pub stands : StandsFor SPEC text spec
   pub clash : Clash
-  pub least : IsLeastClash (graph_of spec.net) clash
+  pub least : IsLeastClash (graph_of spec.net) clash.t1 clash.t2 clash.place
   pub told : line ≡ clash_line spec clash
 
 -- the text is refused by this line

@@ -3,7 +3,7 @@
 ghost use Rattle.std.specs.Prelude.{◌≡◌, ◌≤◌, All, IfOk, IfErr, length};
 ghost use Rattle.stg_net.specs.Initial.{graph_of};
 ghost use Rattle.stg_net.specs.Net.{IsWithin};
-ghost use Rattle.stg_conflict.specs.Clash.{IsLeastClash};
+ghost use Rattle.stg_laws.specs.Conflict.{IsLeastClash};
 ghost use Rattle.stg_decomp.specs.declared.part.Part.{Part};
 ghost use Rattle.astg_write.specs.Writable.{IsWritable};
 ghost use Rattle.astg_read.specs.Standing.{StandsFor, IsUnread};
@@ -50,7 +50,7 @@ fn refuse_by_rule(alloc: Global, text: &[u8], rule: Rule, line: u32) -> Unmade
 // Refuses the text by the least structural auto-conflict of its specification.
 fn refuse_by_clash(alloc: Global, text: &[u8], spec: &Spec, clash: Clash) -> Unmade
     requires stands { StandsFor Limits.SPEC text.now spec.now }
-    requires least { IsLeastClash (graph_of spec.now.net) clash }
+    requires least { IsLeastClash (graph_of spec.now.net) clash.t1 clash.t2 clash.place }
     ensures { IsTold text.now result }
 {
     match clash_text(alloc, spec, clash) {

@@ -13,11 +13,10 @@ use Rattle.stg_net.proofs.Signals.{one_signal}
 use Rattle.stg_laws.proofs.Components.{net_all_known}
 use Rattle.stg_laws.specs.Cuts.{Label, label_of}
 use Rattle.stg_laws.specs.Deterministic.{AreRivals}
-use Rattle.stg_laws.specs.Conflict.{HasNoAutoConflict}
+use Rattle.stg_laws.specs.Conflict.{HasNoAutoConflict, IsClash, IsLeastClash}
 use Rattle.stg_conflict.specs.declared.clash.Clash.{Clash}
-use Rattle.stg_conflict.specs.Clash.{IsClash, IsLeastClash}
 use Rattle.stg_conflict.specs.inner.Search.{have_label, are_clashing, least_clash}
-use Rattle.stg_conflict.proofs.Found.{Found, clash_of, trans_up, least_clash-sound, found-reached}
+use Rattle.stg_conflict.proofs.Found.{Found, trans_up, least_clash-sound, found-reached}
 
 -- the signal of each transition of a net is known
 known_below : (n : NetLists) (t : ℕ) → IsNet n → t < length n.trans → IsKnown (graph_of n) t
@@ -35,10 +34,10 @@ out_ascends a b before same a_out b_out = elim before [
 ]
 
 -- two arcs that clash give a clash of the graph
-pub found_clash : (n : NetLists) (c : Clash) → IsNet n → Found n.trans n.arcs c → IsClash (graph_of n) c
-found_clash n c net f = subst (IsClash (graph_of n)) (sym f.c_is) (clash f.one f.other f.first f.second f.ascends f.inside (f.one_is f.one) (f.other_is f.other) (f.one_is f.other) f.same_place f.clashing)
+pub found_clash : (n : NetLists) (c : Clash) → IsNet n → Found n.trans n.arcs c → IsClash (graph_of n) c.t1 c.t2 c.place
+found_clash n c net f = subst (λ (x : Clash). IsClash (graph_of n) x.t1 x.t2 x.place) (sym f.c_is) (clash f.one f.other f.first f.second f.ascends f.inside (f.one_is f.one) (f.other_is f.other) (f.one_is f.other) f.same_place f.clashing)
   where
-    clash : (a b : NetArc) (i j : ℕ) → i < j → j < length n.arcs → get_or n.arcs i a ≡ a → get_or n.arcs j b ≡ b → get_or n.arcs i b ≡ a → b.place ≡ a.place → are_clashing n.trans a b ≡ true → IsClash (graph_of n) (clash_of a b)
+    clash : (a b : NetArc) (i j : ℕ) → i < j → j < length n.arcs → get_or n.arcs i a ≡ a → get_or n.arcs j b ≡ b → get_or n.arcs i b ≡ a → b.place ≡ a.place → are_clashing n.trans a b ≡ true → IsClash (graph_of n) a.trans b.trans a.place
     clash a b i j lt inside a_is b_is a_at same r =
         let x = trans_at n.trans a.trans in
         let y = trans_at n.trans b.trans in
@@ -101,7 +100,7 @@ connecting_ascend n t u p net lt j k = elim (cases_order j.at k.at) [
 ]
 
 -- a clash of the graph is that of two arcs that clash
-pub clash_found : (n : NetLists) (c : Clash) → IsNet n → IsClash (graph_of n) c → Found n.trans n.arcs c
+pub clash_found : (n : NetLists) (c : Clash) → IsNet n → IsClash (graph_of n) c.t1 c.t2 c.place → Found n.trans n.arcs c
 clash_found n c net clash = found (takes-connecting n c.t1 c.place net clash.conflict.t_takes) (takes-connecting n c.t2 c.place net clash.conflict.u_takes)
   where
     found : ConnectingArc n.arcs false c.t1 c.place → ConnectingArc n.arcs false c.t2 c.place → Found n.trans n.arcs c
@@ -127,24 +126,24 @@ turned : (g : Graph) (t u : ℕ) → AreRivals g t u → AreRivals g u t
 turned g t u r = record { differ = λ e. r.differ (sym e); t_known = r.u_known; u_known = r.t_known; t_name = r.u_name; u_name = r.t_name; t_has = r.u_has; u_has = r.t_has; same = sym r.same }
 
 -- a graph without clashes has no structural auto-conflict
-no_clash : (g : Graph) → ((c : Clash) → IsClash g c → ⊥) → HasNoAutoConflict g
+no_clash : (g : Graph) → ((t u p : ℕ) → IsClash g t u p → ⊥) → HasNoAutoConflict g
 no_clash g none t u p conflict = elim (cases_order t u) [
   | inl same ↦ absurd (conflict.rivals.differ same)
   | inr o ↦ elim o [
-    | inl up ↦ none (record { t1 = t; t2 = u; place = p }) (record { conflict = conflict; ascends = up })
-    | inr down ↦ none (record { t1 = u; t2 = t; place = p }) (record { conflict = record { rivals = turned g t u conflict.rivals; t_takes = conflict.u_takes; u_takes = conflict.t_takes }; ascends = down })
+    | inl up ↦ none t u p (record { conflict = conflict; ascends = up })
+    | inr down ↦ none u t p (record { conflict = record { rivals = turned g t u conflict.rivals; t_takes = conflict.u_takes; u_takes = conflict.t_takes }; ascends = down })
   ]
 ]
 
 -- where the search finds nothing there is no structural auto-conflict
 pub none_found : (n : NetLists) → IsNet n → least_clash n.trans n.arcs ≡ None → HasNoAutoConflict (graph_of n)
-none_found n net e = no_clash (graph_of n) (λ c clash. absurd (rw e at (found-reached n.trans n.arcs c net.ordered (clash_found n c net clash))))
+none_found n net e = no_clash (graph_of n) (λ t u p clash. let c : Clash = record { t1 = t; t2 = u; place = p } in absurd (rw e at (found-reached n.trans n.arcs c net.ordered (clash_found n c net clash))))
 
 -- what the search finds is the least clash
-pub least_found : (n : NetLists) (c : Clash) → IsNet n → least_clash n.trans n.arcs ≡ Some c → IsLeastClash (graph_of n) c
+pub least_found : (n : NetLists) (c : Clash) → IsNet n → least_clash n.trans n.arcs ≡ Some c → IsLeastClash (graph_of n) c.t1 c.t2 c.place
 least_found n c net e = record {
   clash = found_clash n c net (least_clash-sound n.trans n.arcs c e);
-  least = λ d clash. rw e at (found-reached n.trans n.arcs d net.ordered (clash_found n d net clash));
+  least = λ v w q clash. let d : Clash = record { t1 = v; t2 = w; place = q } in rw e at (found-reached n.trans n.arcs d net.ordered (clash_found n d net clash));
 }
 
 pub conflict_found : (n : NetLists) (c : Clash) → IsNet n → least_clash n.trans n.arcs ≡ Some c → HasNoAutoConflict (graph_of n) → ⊥

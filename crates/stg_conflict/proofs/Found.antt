@@ -7,9 +7,8 @@ use Rattle.stg_net.specs.declared.trans.TransName.{TransName}
 use Rattle.stg_net.specs.declared.arc.NetArc.{NetArc}
 use Rattle.stg_net.specs.Net.{IsBefore as IsArcBefore}
 use Rattle.stg_conflict.specs.declared.clash.Clash.{Clash}
-use Rattle.stg_conflict.specs.Clash.{IsLesser}
 use Rattle.stg_conflict.specs.inner.Search.{are_clashing, first_clash, least_clash, lesser}
-use Rattle.stg_conflict.proofs.Orders.{IsReached, lesser_first, lesser_second, lesser_one}
+use Rattle.stg_conflict.proofs.Orders.{IsLesser, IsReached, lesser_first, lesser_second, lesser_one}
 
 -- the clash of two arcs
 abbrev pub clash_of : NetArc → NetArc → Clash

@@ -1,10 +1,13 @@
 -- The order of clashes, and the lesser of two.
-use Rattle.std.proofs.Common.{◌≡◌, ◌⊎◌, true, false, Option, Some, None, arith, inl, inr}
+use Rattle.std.proofs.Common.{◌≡◌, ◌⊎◌, ◌<◌, true, false, Option, Some, None, arith, inl, inr}
 use Rattle.std.proofs.lemmas.Bool.{cases_Bool, false≢true}
 use Rattle.std.proofs.lemmas.Bool.Decides.{nat_tests}
 use Rattle.stg_conflict.specs.declared.clash.Clash.{Clash}
-use Rattle.stg_conflict.specs.Clash.{IsLesser}
 use Rattle.stg_conflict.specs.inner.Search.{is_lesser, lesser}
+
+-- c is the lesser: by the first transition, then by the second, then by the place
+abbrev pub IsLesser : Clash → Clash → Type 0
+IsLesser c d = (c.t1 < d.t1) ⊎ ((c.t1 ≡ d.t1) × ((c.t2 < d.t2) ⊎ ((c.t2 ≡ d.t2) × (c.place < d.place))))
 
 before_trans : (c d e : Clash) → IsLesser c d → IsLesser d e → IsLesser c e
 before_trans c d e p q = grind arith

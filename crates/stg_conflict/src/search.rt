@@ -3,8 +3,7 @@
 ghost use Rattle.std.specs.Prelude.{◌≡◌, ◌<◌, ◌↔◌, length, All, IsOk, IfErr};
 ghost use Rattle.stg_net.specs.declared.arc.NetArc.{NetArc};
 ghost use Rattle.stg_net.specs.Initial.{graph_of};
-ghost use Rattle.stg_laws.specs.Conflict.{HasNoAutoConflict};
-ghost use Rattle.stg_conflict.specs.Clash.{IsLeastClash};
+ghost use Rattle.stg_laws.specs.Conflict.{HasNoAutoConflict, IsLeastClash};
 ghost use Rattle.stg_conflict.specs.inner.Search.{have_label, are_clashing, first_clash, least_clash};
 
 use crate::Clash;
@@ -62,7 +61,7 @@ fn find_clash(trans: &[TransName], arcs: &[NetArc]) -> Option<Clash>
 /// such pair with the least such place.
 pub fn no_auto_conflict(net: &Net) -> Result<(), Clash>
     ensures none { IsOk result ↔ HasNoAutoConflict (graph_of net.now) }
-    ensures least { IfErr result (λ c. IsLeastClash (graph_of net.now) c) }
+    ensures least { IfErr result (λ c. IsLeastClash (graph_of net.now) c.t1 c.t2 c.place) }
 {
     match find_clash(net.trans(), net.arcs()) {
         None => Ok(()),

@@ -176,8 +176,8 @@ module _ (g : Graph) (t : ℕ) (dummy : IsDummy g t) where
   in_order : (P : ℕ → ℕ → Type 0) → ((u v : ℕ) → P u v → (r : ℕ) × IsAutoConflict (contracted g t) u v r)
       → (y : ℕ × ℕ) → InOrder P y → AreClashing (contracted g t) y.0 y.1
   in_order P clash y o = elim o.0 [
-    | inl m ↦ let c = clash y.0 y.1 m in record { place = c.0; conflict = c.1; ascends = o.1 }
-    | inr m ↦ let c = clash y.1 y.0 m in record { place = c.0; conflict = turned y.1 y.0 c.0 c.1; ascends = o.1 }
+    | inl m ↦ let c = clash y.0 y.1 m in record { place = c.0; clash = record { conflict = c.1; ascends = o.1 } }
+    | inr m ↦ let c = clash y.1 y.0 m in record { place = c.0; clash = record { conflict = turned y.1 y.0 c.0 c.1; ascends = o.1 } }
   ]
 
   -- all that the two searches go through
@@ -189,10 +189,10 @@ module _ (g : Graph) (t : ℕ) (dummy : IsDummy g t) where
   comes y (inr at) = in_order (MeetLeft g t) left_clash y (left_found_at g t y at)
 
   goes : (y : ℕ × ℕ) → AreClashing (contracted g t) y.0 y.1 → Searched y
-  goes y c = elim (clash_meets y.0 y.1 c.place c.conflict) [
-    | inl (inl m) ↦ inl (round_there g t y.0 y.1 y m (clash_there g y.0 y.1 m.rivals c.ascends).0)
-    | inl (inr m) ↦ inl (round_there g t y.1 y.0 y m (clash_there g y.0 y.1 (rivals_turned g y.1 y.0 m.rivals) c.ascends).1)
-    | inr m ↦ inr (left_there_at g t y.0 y.1 y m (clash_there g y.0 y.1 m.rivals c.ascends).0)
+  goes y c = elim (clash_meets y.0 y.1 c.place c.clash.conflict) [
+    | inl (inl m) ↦ inl (round_there g t y.0 y.1 y m (clash_there g y.0 y.1 m.rivals c.clash.ascends).0)
+    | inl (inr m) ↦ inl (round_there g t y.1 y.0 y m (clash_there g y.0 y.1 (rivals_turned g y.1 y.0 m.rivals) c.clash.ascends).1)
+    | inr m ↦ inr (left_there_at g t y.0 y.1 y m (clash_there g y.0 y.1 m.rivals c.clash.ascends).0)
   ]
 
   least_clash : (o : Option (ℕ × ℕ)) → IsLeastOf (λ y. AreClashing (contracted g t) y.0 y.1) o
@@ -200,8 +200,8 @@ module _ (g : Graph) (t : ℕ) (dummy : IsDummy g t) where
   least_clash (Some x) least = record { clashing = least.0; least = λ v w c. least.1 (v, w) c }
   least_clash None none = λ u v r c. elim (cases_order u v) [
     | inl same ↦ c.rivals.differ same
-    | inr (inl l) ↦ none (u, v) (record { place = r; conflict = c; ascends = l })
-    | inr (inr l) ↦ none (v, u) (record { place = r; conflict = turned u v r c; ascends = l })
+    | inr (inl l) ↦ none (u, v) (record { place = r; clash = record { conflict = c; ascends = l } })
+    | inr (inr l) ↦ none (v, u) (record { place = r; clash = record { conflict = turned u v r c; ascends = l } })
   ]
 
   round_least : IsLeastOf (InRound g t) (least_round g t)

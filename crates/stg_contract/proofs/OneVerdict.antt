@@ -63,7 +63,7 @@ module _ (g : Graph) (t : ℕ) where
   fails Loop r p = p r
   fails Weight r p = p r.1
   fails Insecure r p = r.1 p
-  fails (Clash u v) r p = p u v r.1.clashing.place r.1.clashing.conflict
+  fails (Clash u v) r p = p u v r.1.clashing.place r.1.clashing.clash.conflict
   fails (Places n) r p = omega (arith, r.many_places, p)
   fails Large r p = r.not_within p
   fails Type1 r p = p r.1

@@ -3,7 +3,7 @@ use Rattle.std.specs.Prelude.{◌≡◌, ◌<◌, ◌≤◌, ◌+◌, ◌-◌, �
 use Rattle.stg_net.specs.declared.limits.TheConstants.Limits.{PART}
 use Rattle.stg_net.specs.Graph.{Graph, tokens_at, takes, gives}
 use Rattle.stg_net.specs.Contraction.{contracted}
-use Rattle.stg_laws.specs.Conflict.{IsAutoConflict, HasNoAutoConflict}
+use Rattle.stg_laws.specs.Conflict.{HasNoAutoConflict, IsClash}
 use Rattle.stg_laws.specs.Secure.{IsPureOrdinary, IsType1, IsSecure}
 use Rattle.stg_edit.specs.Counted.{live_places, count_arcs}
 use Rattle.stg_contract.specs.declared.verdict.Verdict.{Verdict}
@@ -23,8 +23,7 @@ pub record HasWeight (g : Graph) (t : ℕ) : Type 0 where
 -- t and u, the lesser first, are two known transitions of one label that take from one place
 pub record AreClashing (g : Graph) (t u : ℕ) : Type 0 where
   pub place : ℕ
-  pub conflict : IsAutoConflict g t u place
-  pub ascends : t < u
+  pub clash : IsClash g t u place
 
 -- so are t and u, and no two before them, by the first and then by the second
 pub record AreLeastClashing (g : Graph) (t u : ℕ) : Type 0 where

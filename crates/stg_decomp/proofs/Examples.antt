@@ -7,7 +7,7 @@ use Rattle.stg_net.specs.declared.trans.TransName.{TransName}
 use Rattle.stg_net.specs.declared.arc.NetArc.{NetArc}
 use Rattle.stg_net.specs.Net.{NetLists}
 use Rattle.stg_net.proofs.Examples.{named, into, from}
-use Rattle.stg_partition.specs.declared.group.Group.{Group}
+use Rattle.stg_laws.specs.PlainGroups.{Group}
 use Rattle.stg_decomp.specs.Parts.{parts_of}
 
 abbrev input : List ℕ → Signal

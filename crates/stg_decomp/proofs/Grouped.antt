@@ -8,9 +8,8 @@ use Rattle.stg_net.specs.Net.{NetLists}
 use Rattle.stg_laws.specs.Groups.{least_own, AreJoined}
 use Rattle.stg_laws.specs.Stgs.{is_driven}
 use Rattle.stg_laws.proofs.Declaring.{Declares}
-use Rattle.stg_partition.specs.declared.group.Group.{Group}
-use Rattle.stg_partition.specs.PlainGroups.{ArePlainGroups}
-use Rattle.stg_partition.proofs.Conflicts.{joined_on, joined_back, driven_there}
+use Rattle.stg_laws.specs.PlainGroups.{Group, ArePlainGroups}
+use Rattle.stg_laws.proofs.SignalConflicts.{joined_on, joined_back, driven_there}
 
 abbrev pub no_group : Group
 no_group = record { own = []; known = [] }

@@ -18,8 +18,7 @@ use Rattle.stg_laws.specs.Faithful.{IsFaithful, AreComponents}
 use Rattle.stg_laws.proofs.Components.{net_is_stg, seen_is_faithful, is_group_component}
 use Rattle.stg_laws.proofs.Correctness.{faithful_parts_are_correct}
 use Rattle.stg_laws.proofs.Wiring.{IsGroupComponent, AreGroups, group_components_are_wired}
-use Rattle.stg_partition.specs.declared.group.Group.{Group}
-use Rattle.stg_partition.specs.PlainGroups.{ArePlainGroups}
+use Rattle.stg_laws.specs.PlainGroups.{Group, ArePlainGroups}
 use Rattle.stg_decomp.specs.declared.part.Part.{Part}
 use Rattle.stg_decomp.specs.Parts.{shared, part_of, parts_of, AreParts, nets_of, no_part}
 use Rattle.stg_decomp.proofs.Grouped.{no_group, own_at, one_group, some_group, few_groups}

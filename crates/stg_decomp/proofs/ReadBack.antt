@@ -4,7 +4,7 @@ use Rattle.std.proofs.lemmas.List.{length-map, get_or-map as get_or-map_in}
 use Rattle.stg_net.specs.Component.{component}
 use Rattle.stg_net.specs.Net.{NetLists, IsNet}
 use Rattle.stg_net.specs.Ordered.{ordered}
-use Rattle.stg_partition.specs.declared.group.Group.{Group}
+use Rattle.stg_laws.specs.PlainGroups.{Group}
 use Rattle.astg_write.specs.ReadsBack.{AreReadBack}
 use Rattle.astg_write.specs.Writable.{IsWritable}
 use Rattle.astg_write.proofs.WrittenBack.{component-reads_back}

@@ -4,8 +4,7 @@ use Rattle.std.specs.List.{range_with_len}
 use Rattle.stg_net.specs.Net.{NetLists}
 use Rattle.stg_net.specs.Ordered.{ordered}
 use Rattle.stg_net.specs.Component.{component}
-use Rattle.stg_partition.specs.declared.group.Group.{Group}
-use Rattle.stg_partition.specs.PlainGroups.{ArePlainGroups}
+use Rattle.stg_laws.specs.PlainGroups.{Group, ArePlainGroups}
 use Rattle.stg_decomp.specs.declared.part.Part.{Part}
 
 -- the own signals that another part knows: all of them where there is another part, since each part knows every signal

@@ -6,7 +6,7 @@ ghost use Rattle.stg_net.specs.Names.{IsWellNamed};
 ghost use Rattle.stg_net.specs.Initial.{graph_of};
 ghost use Rattle.stg_laws.specs.Conflict.{HasNoAutoConflict};
 ghost use Rattle.stg_laws.specs.Faithful.{AreComponents};
-ghost use Rattle.stg_conflict.specs.Clash.{IsLeastClash};
+ghost use Rattle.stg_laws.specs.Conflict.{IsLeastClash};
 ghost use Rattle.stg_decomp.specs.Telling.{clash_told};
 ghost use Rattle.stg_decomp.specs.declared.part.Part.{Part};
 ghost use Rattle.astg_write.specs.Writable.{IsWritable};
@@ -89,7 +89,7 @@ pub fn decompose(alloc: Global, spec: &Spec) -> Result<Answer, DecompError>
     ensures writable { IfOk result (λ answer. All (λ (part : Part). IsWritable part.net) answer.parts) }
     ensures meaning { IfOk result (λ answer. AreComponents spec.now.net (nets_of answer.parts)) }
     ensures reads_back { IfOk result (λ answer. AreReadBack (nets_of answer.parts)) }
-    ensures clash { IfSome (clash_told result) (λ c. IsLeastClash (graph_of spec.now.net) c) }
+    ensures clash { IfSome (clash_told result) (λ c. IsLeastClash (graph_of spec.now.net) c.t1 c.t2 c.place) }
     ensures none { clash_told result ≡ None ↔ HasNoAutoConflict (graph_of spec.now.net) }
 {
     match no_auto_conflict(spec.net()) {

@@ -3,6 +3,9 @@ pub mod Names
 pub mod Cuts
 pub mod Inputs
 pub mod KnownSignals
+pub mod SignalConflicts
+pub mod ClosedGroups
+pub mod OneGrouping
 pub mod Keeping
 pub mod Renumbering
 pub mod Deriving

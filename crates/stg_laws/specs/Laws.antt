@@ -8,6 +8,7 @@ use Rattle.stg_net.specs.Ordered.{ordered}
 use Rattle.stg_net.specs.Contraction.{contracted, without_place, without_trans}
 use Rattle.stg_laws.specs.Closed.{IsClosed}
 use Rattle.stg_laws.specs.Groups.{known_to, names_at}
+use Rattle.stg_laws.specs.PlainGroups.{Group, ArePlainGroups}
 use Rattle.stg_laws.specs.Cuts.{cut, HaveSameNameLists}
 use Rattle.stg_laws.specs.Deterministic.{IsClean, HasNoDummy, IsDeterministic}
 use Rattle.stg_laws.specs.Conflict.{HasNoAutoConflict}
@@ -48,6 +49,11 @@ CutTellsInputs = (g : Graph) (own signals : List (List ℕ)) (t p : ℕ) (v w : 
 abbrev pub KnownCloses : Type 0
 KnownCloses = (n : NetLists) (own : List ℕ) → IsNet n → All (λ s. s < length n.signals) own
     → IsClosed (graph_of n) (names_at n own) (names_at n (known_to n own))
+
+-- a net has one list of plain groups
+abbrev pub HasOneGrouping : Type 0
+HasOneGrouping = (n : NetLists) (groups others : List Group) → ArePlainGroups n groups → ArePlainGroups n others
+    → groups ≡ others
 
 -- a graph without dummies, toggles and structural auto-conflicts, in each of whose runs the edges of each signal alternate, is deterministic
 abbrev pub ConsistencyDetermines : Type 0

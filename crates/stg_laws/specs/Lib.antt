@@ -8,6 +8,7 @@ pub mod Joint
 pub mod Correct
 pub mod Closed
 pub mod Groups
+pub mod PlainGroups
 pub mod Faithful
 pub mod Renumbered
 pub mod Secure

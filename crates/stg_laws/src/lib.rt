@@ -1,7 +1,7 @@
 //! The laws of runs: what components mean, for all graphs. Nothing here does work at run time.
 #![tactic(auto)]
 
-ghost use Rattle.stg_laws.specs.Laws.{ConsistencyDetermines, CutTellsInputs, KnownCloses, FaithfulPartsAreCorrect, OrderRenumbers, OrderDrivesTheSame};
+ghost use Rattle.stg_laws.specs.Laws.{ConsistencyDetermines, CutTellsInputs, KnownCloses, HasOneGrouping, FaithfulPartsAreCorrect, OrderRenumbers, OrderDrivesTheSame};
 ghost use Rattle.stg_laws.specs.Laws.{ContractionFollows, ContractionAddsNoRun, ContractionKeepsNames, ContractionKeepsClean};
 ghost use Rattle.stg_laws.specs.Laws.{StructuralDeletionKeepsRuns, RulesAreStructural, PlaceDeletionKeepsRuns, PlaceDeletionKeepsClean};
 ghost use Rattle.stg_laws.specs.Laws.{DummyDeletionKeepsNames, TransDeletionAddsNoRun, TransDeletionKeepsClean};
@@ -26,6 +26,11 @@ pub fn law_inputs()
 /// What signals of a net have to know closes them, so that `law_inputs` holds of each group.
 pub fn law_known()
     ensures { KnownCloses }
+{}
+
+/// A net has one list of plain groups.
+pub fn law_one_grouping()
+    ensures { HasOneGrouping }
 {}
 
 /// A consistent graph without dummies, toggles and structural auto-conflicts is deterministic.

@@ -10,9 +10,8 @@ use Rattle.stg_net.specs.Net.{NetLists}
 use Rattle.stg_net.specs.Component.{is_one_of}
 use Rattle.stg_net.proofs.Members.{contained-one_of}
 use Rattle.stg_laws.specs.Groups.{is_driven_at, share_place, in_conflict, known_to, LeadsTo, AreJoined, IsPlainGroup, least_own}
-use Rattle.stg_partition.specs.declared.group.Group.{Group}
-use Rattle.stg_partition.specs.PlainGroups.{ArePlainGroups}
-use Rattle.stg_partition.proofs.Conflicts.{driven_there, joined_itself}
+use Rattle.stg_laws.specs.PlainGroups.{Group, ArePlainGroups}
+use Rattle.stg_laws.proofs.SignalConflicts.{driven_there, joined_itself}
 use Rattle.stg_partition.proofs.Examples.{bus, shared, linked}
 
 -- whether all that is in conflict with an own signal is own

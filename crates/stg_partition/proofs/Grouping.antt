@@ -12,11 +12,10 @@ use Rattle.stg_net.specs.Component.{is_one_of}
 use Rattle.stg_net.proofs.Givers.{numbers_where-agree}
 use Rattle.stg_net.proofs.Members.{one_of-contained, contained-one_of}
 use Rattle.stg_laws.specs.Groups.{signal_of, is_driven_at, takes_from, is_at, own_take_from, is_known_to, known_to, AreJoined, IsPlainGroup, least_own}
-use Rattle.stg_partition.specs.declared.group.Group.{Group}
-use Rattle.stg_partition.specs.PlainGroups.{ArePlainGroups}
+use Rattle.stg_laws.specs.PlainGroups.{Group, ArePlainGroups}
 use Rattle.stg_partition.specs.inner.Joining.{taker_at, is_led, brings, AreFlags, is_known_by, group_of, is_leader, IsJoining}
 use Rattle.stg_laws.proofs.KnownSignals.{at_by, passing, own_takes, known_at, passing_contained}
-use Rattle.stg_partition.proofs.Conflicts.{driven_there, joined_driven}
+use Rattle.stg_laws.proofs.SignalConflicts.{driven_there, joined_driven}
 use Rattle.stg_partition.proofs.Leading.{leader_of, taker_there, led_by, joined_led}
 use Rattle.stg_partition.proofs.Numbers.{numbers_increase, numbers_pass, contained_passes, first_number}
 

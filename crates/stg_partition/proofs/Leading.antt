@@ -11,7 +11,7 @@ use Rattle.stg_net.specs.Net.{NetLists, IsNet}
 use Rattle.stg_laws.specs.Groups.{signal_of, is_driven_at, takes_from, share_place, in_conflict, LeadsTo, AreJoined}
 use Rattle.stg_partition.specs.inner.Joining.{own_taker, relabelled_leader, merged_leader, taker_at, with_first, with_taker, new_leader, IsLedWith, IsLed, IsJoining}
 use Rattle.stg_laws.proofs.KnownSignals.{takes_by}
-use Rattle.stg_partition.proofs.Conflicts.{taker, shared, conflict_at, joined_on, joined_itself, joined_once, joined_back}
+use Rattle.stg_laws.proofs.SignalConflicts.{taker, shared, conflict_at, joined_on, joined_itself, joined_once, joined_back}
 
 -- the leader of a signal
 abbrev pub leader_of : List ℕ → ℕ → ℕ

@@ -1,9 +1,6 @@
 pub mod Examples
 pub mod GroupExamples
-pub mod Conflicts
 pub mod Leading
 pub mod FlagLemmas
 pub mod Numbers
 pub mod Grouping
-pub mod Unique
-pub mod Closing

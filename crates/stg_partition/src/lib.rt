@@ -9,4 +9,4 @@ mod plain;
 mod tests;
 
 pub use group::Group;
-pub use plain::{law_one_grouping, plain_groups};
+pub use plain::plain_groups;

@@ -3,7 +3,7 @@
 ghost use Rattle.std.specs.Prelude.{◌≡◌, ◌*◌, ◌<◌, ◌≤◌, ◌++◌, length, slice_index, IfOk, OnOk};
 ghost use Rattle.stg_net.specs.Ordered.{numbers_with};
 ghost use Rattle.stg_partition.specs.inner.Joining.{is_known_by, group_of, is_leader, groups_at, groups_below};
-ghost use Rattle.stg_partition.specs.PlainGroups.{ArePlainGroups, AreClosed, HasOneGrouping};
+ghost use Rattle.stg_laws.specs.PlainGroups.{ArePlainGroups, AreClosed};
 
 use crate::Group;
 use crate::flags::{flag_all, flag_index};
@@ -122,8 +122,3 @@ pub fn plain_groups(alloc: Global, spec: &Spec) -> Result<Seq<Group>, NoMemory>
     let flags = flag_all(alloc, net, &found)?;
     list_groups(alloc, net, found.leaders.as_slice(), flags.as_slice())
 }
-
-/// A net has one list of plain groups.
-pub fn law_one_grouping()
-    ensures { HasOneGrouping }
-{}

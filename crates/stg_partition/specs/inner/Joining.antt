@@ -5,7 +5,7 @@ use Rattle.stg_net.specs.declared.arc.NetArc.{NetArc}
 use Rattle.stg_net.specs.Net.{NetLists}
 use Rattle.stg_net.specs.Ordered.{only_where, numbers_with, numbers_where}
 use Rattle.stg_laws.specs.Groups.{signal_of, is_driven_at, takes_from, AreJoined}
-use Rattle.stg_partition.specs.declared.group.Group.{Group}
+use Rattle.stg_laws.specs.PlainGroups.{Group}
 
 -- the signal of the arc's transition, where it is an output or internal and the arc leads to it
 abbrev pub own_taker : NetLists → NetArc → Option ℕ

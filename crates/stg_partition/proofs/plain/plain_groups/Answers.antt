@@ -1,11 +1,10 @@
 use Rattle.std.proofs.Common.{◌≡◌, ◌∙◌, Bool, ℕ, List, length, ap, sym, subst}
 use Rattle.std.proofs.lemmas.Result.{IfOk-weaker}
 use Rattle.stg_net.specs.Net.{NetLists, IsNet}
-use Rattle.stg_partition.specs.declared.group.Group.{Group}
+use Rattle.stg_laws.specs.PlainGroups.{Group, ArePlainGroups, AreClosed}
 use Rattle.stg_partition.specs.inner.Joining.{groups_below}
-use Rattle.stg_partition.specs.PlainGroups.{ArePlainGroups, AreClosed}
 use Rattle.stg_partition.proofs.Grouping.{plain_groups_of}
-use Rattle.stg_partition.proofs.Closing.{groups_closed}
+use Rattle.stg_laws.proofs.ClosedGroups.{groups_closed}
 use Rattle.stg_partition.proofs.plain.plain_groups.Goals as goal
 
 pub returns-clause-groups : goal.returns-clause-groups

@@ -4,7 +4,11 @@ use Rattle.stg_net.specs.Net.{NetLists}
 use Rattle.stg_net.specs.Initial.{graph_of}
 use Rattle.stg_laws.specs.Closed.{IsClosed}
 use Rattle.stg_laws.specs.Groups.{is_driven_at, least_own, IsPlainGroup, known_to, names_at}
-use Rattle.stg_partition.specs.declared.group.Group.{Group}
+
+-- the signals that a component drives, and those that it knows
+pub record Group : Type 0 where
+  pub own : List ℕ
+  pub known : List ℕ
 
 -- each output and internal signal stands in a plain group, the groups stand in the order of their least signals, and each knows what it has to
 pub record ArePlainGroups (n : NetLists) (groups : List Group) : Type 0 where
@@ -16,7 +20,3 @@ pub record ArePlainGroups (n : NetLists) (groups : List Group) : Type 0 where
 -- each group knows the signals of all arcs at the places from which its own transitions take
 abbrev pub AreClosed : NetLists → List Group → Type 0
 AreClosed n groups = All (λ (group : Group). IsClosed (graph_of n) (names_at n group.own) (names_at n group.known)) groups
-
--- a net has one list of plain groups
-abbrev pub HasOneGrouping : Type 0
-HasOneGrouping = (n : NetLists) (groups others : List Group) → ArePlainGroups n groups → ArePlainGroups n others → groups ≡ others

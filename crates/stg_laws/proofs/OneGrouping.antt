@@ -5,9 +5,8 @@ use Rattle.std.proofs.lemmas.List.Kept.{AllPairs-from_increasing}
 use Rattle.stg_net.specs.Net.{NetLists}
 use Rattle.stg_net.proofs.Members.{first_least}
 use Rattle.stg_laws.specs.Groups.{is_driven_at, known_to, AreJoined, IsPlainGroup, least_own}
-use Rattle.stg_partition.specs.declared.group.Group.{Group}
-use Rattle.stg_partition.specs.PlainGroups.{ArePlainGroups}
-use Rattle.stg_partition.proofs.Conflicts.{joined_back}
+use Rattle.stg_laws.specs.PlainGroups.{Group, ArePlainGroups}
+use Rattle.stg_laws.proofs.SignalConflicts.{joined_back}
 
 abbrev Rise : List ℕ → Type 0
 Rise xs = AllPairs (λ x y. x < y) xs

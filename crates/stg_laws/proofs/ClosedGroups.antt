@@ -6,9 +6,8 @@ use Rattle.stg_net.specs.Initial.{graph_of}
 use Rattle.stg_laws.specs.Closed.{IsClosed}
 use Rattle.stg_laws.specs.Groups.{names_at, IsPlainGroup, least_own}
 use Rattle.stg_laws.proofs.KnownSignals.{known_closes}
-use Rattle.stg_partition.specs.declared.group.Group.{Group}
-use Rattle.stg_partition.specs.PlainGroups.{ArePlainGroups, AreClosed}
-use Rattle.stg_partition.proofs.Conflicts.{joined_driven, driven_there}
+use Rattle.stg_laws.specs.PlainGroups.{Group, ArePlainGroups, AreClosed}
+use Rattle.stg_laws.proofs.SignalConflicts.{joined_driven, driven_there}
 
 -- the own signals of a plain group are signals of the net
 own_there : (n : NetLists) (own : List ℕ) → IsPlainGroup n own → All (λ s. s < length n.signals) own
