@@ -19,7 +19,8 @@ is_driven_at signals s = is_driven (signal_at signals s).kind
 
 -- whether a transition of the signal takes from the place
 abbrev pub takes_from : NetLists → ℕ → ℕ → Bool
-takes_from n s p = list_any (λ (a : NetArc). not a.into && (a.place == p) && (signal_of n a == s)) n.arcs
+takes_from n s p =
+    list_any (λ (a : NetArc). not a.into && (a.place == p) && (signal_of n a == s)) n.arcs
 
 -- whether a transition of the signal takes from the place or gives to it
 abbrev pub is_at : NetLists → ℕ → ℕ → Bool
@@ -27,7 +28,8 @@ is_at n s p = list_any (λ (a : NetArc). (a.place == p) && (signal_of n a == s))
 
 -- whether transitions of both take from one place
 abbrev pub share_place : NetLists → ℕ → ℕ → Bool
-share_place n x y = list_any (λ p. takes_from n x p && takes_from n y p) (range_with_len 0 (length n.tokens))
+share_place n x y =
+    list_any (λ p. takes_from n x p && takes_from n y p) (range_with_len 0 (length n.tokens))
 
 -- whether both are outputs or internal signals, and transitions of both take from one place
 abbrev pub in_conflict : NetLists → ℕ → ℕ → Bool
@@ -57,9 +59,12 @@ pub record IsPlainGroup (n : NetLists) (own : List ℕ) : Type 0 where
 abbrev pub own_take_from : NetLists → List ℕ → ℕ → Bool
 own_take_from n own p = list_any (λ s. takes_from n s p) own
 
--- whether the signal is an own one, or a transition of it takes from or gives to a place from which an own transition takes
+-- whether the signal is an own one, or a transition of it takes from or gives to a
+-- place from which an own transition takes
 abbrev pub is_known_to : NetLists → List ℕ → ℕ → Bool
-is_known_to n own s = is_one_of own s || list_any (λ p. own_take_from n own p && is_at n s p) (range_with_len 0 (length n.tokens))
+is_known_to n own s =
+    is_one_of own s
+    || list_any (λ p. own_take_from n own p && is_at n s p) (range_with_len 0 (length n.tokens))
 
 -- the signals that a group knows, in ascending order
 abbrev pub known_to : NetLists → List ℕ → List ℕ

@@ -10,13 +10,17 @@ pub record Group : Type 0 where
   pub own : List ℕ
   pub known : List ℕ
 
--- each output and internal signal stands in a plain group, the groups stand in the order of their least signals, and each knows what it has to
+-- each output and internal signal stands in a plain group, the groups stand in the order of their
+-- least signals, and each knows what it has to
 pub record ArePlainGroups (n : NetLists) (groups : List Group) : Type 0 where
   pub plain : All (λ (group : Group). IsPlainGroup n group.own) groups
-  pub whole : (s : ℕ) → IsTrue (is_driven_at n.signals s) → Any (λ (group : Group). Contains group.own s) groups
+  pub whole : (s : ℕ) → IsTrue (is_driven_at n.signals s)
+      → Any (λ (group : Group). Contains group.own s) groups
   pub ordered : AllPairs (λ (g h : Group). least_own g.own < least_own h.own) groups
   pub known : All (λ (group : Group). group.known ≡ known_to n group.own) groups
 
 -- each group knows the signals of all arcs at the places from which its own transitions take
 abbrev pub AreClosed : NetLists → List Group → Type 0
-AreClosed n groups = All (λ (group : Group). IsClosed (graph_of n) (names_at n group.own) (names_at n group.known)) groups
+AreClosed n groups =
+    All (λ (group : Group). IsClosed (graph_of n) (names_at n group.own) (names_at n group.known))
+    groups

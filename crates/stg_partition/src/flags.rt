@@ -26,7 +26,8 @@ fn flag_arc(net: &Net, leaders: &[u32], takers: &[Option<u32>], flags: &mut [boo
     requires takers { All (λ taker. IfSome taker (λ s. s < length leaders.now)) takers.now }
     requires leaders { All (λ leader. leader < length leaders.now) leaders.now }
     requires flags { length flags.old ≡ length leaders.now * length leaders.now }
-    ensures { AreFlaggedWith (length leaders.now) (λ l s. brings net.now leaders.now takers.now l s arc) flags.old flags.new }
+    ensures { AreFlaggedWith (length leaders.now)
+        (λ l s. brings net.now leaders.now takers.now l s arc) flags.old flags.new }
 {
     if let Some(taker) = takers[arc.place as usize] {
         let leader = leaders[taker as usize];
@@ -42,7 +43,8 @@ fn flag_arcs(net: &Net, leaders: &[u32], takers: &[Option<u32>], flags: &mut [bo
     requires takers { All (λ taker. IfSome taker (λ s. s < length leaders.now)) takers.now }
     requires leaders { All (λ leader. leader < length leaders.now) leaders.now }
     requires flags { length flags.old ≡ length leaders.now * length leaders.now }
-    ensures { AreFlaggedWith (length leaders.now) (is_brought net.now leaders.now takers.now) flags.old flags.new }
+    ensures { AreFlaggedWith (length leaders.now) (is_brought net.now leaders.now takers.now)
+        flags.old flags.new }
 {
     for arc in net.arcs() {
         flag_arc(net, leaders, takers, flags, *arc);
@@ -55,10 +57,14 @@ pub(crate) fn flag_all(
     net: &Net,
     found: &LeadersAndTakers,
 ) -> Result<Vec<bool>, NoMemory>
-    requires found { IsJoining net.now (length net.now.arcs) found.now.leaders.items found.now.takers.items }
+    requires found { IsJoining net.now (length net.now.arcs) found.now.leaders.items
+        found.now.takers.items }
     requires few { length net.now.signals ≤ 250 }
-    ensures long { IfOk result (λ flags. length flags.items ≡ length found.now.leaders.items * length found.now.leaders.items) }
-    ensures value { IfOk result (λ flags. AreFlags net.now found.now.leaders.items found.now.takers.items flags.items) }
+    ensures long { IfOk result
+        (λ flags. length flags.items
+        ≡ length found.now.leaders.items * length found.now.leaders.items) }
+    ensures value { IfOk result
+        (λ flags. AreFlags net.now found.now.leaders.items found.now.takers.items flags.items) }
 {
     let leaders = found.leaders.as_slice();
     let size = leaders.len();

@@ -90,7 +90,8 @@ fn join_arc(net: &Net, leaders: &mut [u32], takers: &mut [Option<u32>], arc: Net
     requires signals { length leaders.old ≡ length net.now.signals }
     requires takers { All (λ taker. IfSome taker (λ s. s < length leaders.old)) takers.old }
     ensures takers { takers.new ≡ with_taker (own_taker net.now arc) arc.place takers.old }
-    ensures leaders { AreChanged (leader_after net.now arc takers.old leaders.old) leaders.old leaders.new }
+    ensures leaders { AreChanged (leader_after net.now arc takers.old leaders.old) leaders.old
+        leaders.new }
 {
     let place = arc.place as usize;
     if let Some(signal) = own_taker(net, arc) {
@@ -113,7 +114,8 @@ fn join_all(net: &Net, leaders: &mut [u32], takers: &mut [Option<u32>])
 /// Finds the leader of each signal, and for each place a signal that takes from it, if there is one
 /// that is an output or internal.
 pub(crate) fn join_signals(alloc: Global, net: &Net) -> Result<LeadersAndTakers, NoMemory>
-    ensures { IfOk result (λ j. IsJoining net.now (length net.now.arcs) j.leaders.items j.takers.items) }
+    ensures { IfOk result
+        (λ j. IsJoining net.now (length net.now.arcs) j.leaders.items j.takers.items) }
 {
     let mut leaders = numbers_below(alloc, net.signals().len() as u32)?.into_vec();
     let mut takers = no_takers(alloc, net.tokens().len())?;

@@ -13,7 +13,8 @@ use stg_net::{Net, NoMemory, Nums, Seq, Spec};
 
 fn list_own(alloc: Global, leaders: &[u32], leader: u32) -> Result<Nums, NoMemory>
     requires { length leaders.now ≤ 250 }
-    ensures { IfOk result (λ own. own ≡ numbers_with (slice_index leaders.now) (length leaders.now) leader) }
+    ensures { IfOk result
+        (λ own. own ≡ numbers_with (slice_index leaders.now) (length leaders.now) leader) }
 {
     let mut own = Seq::new(alloc);
     for s in 0..leaders.len() as u32 {
@@ -102,7 +103,8 @@ fn list_groups(
     requires signals { length leaders.now ≡ length net.now.signals }
     requires few { length leaders.now ≤ 250 }
     requires flags { length flags.now ≡ length leaders.now * length leaders.now }
-    ensures { IfOk result (λ groups. groups ≡ groups_below net.now leaders.now flags.now (length leaders.now)) }
+    ensures { IfOk result
+        (λ groups. groups ≡ groups_below net.now leaders.now flags.now (length leaders.now)) }
 {
     let mut groups = Seq::new(alloc);
     for s in 0..leaders.len() as u32 {
@@ -111,8 +113,8 @@ fn list_groups(
     Ok(groups)
 }
 
-/// Groups the outputs and internal signals of a specification, so that those of one group are linked
-/// by conflicts. A signal in conflict with no other one is a group of its own.
+/// Groups the outputs and internal signals of a specification, so that those of one group are
+/// linked by conflicts. A signal in conflict with no other one is a group of its own.
 pub fn plain_groups(alloc: Global, spec: &Spec) -> Result<Seq<Group>, NoMemory>
     ensures groups { IfOk result (λ groups. ArePlainGroups spec.now.net groups) }
     ensures closed { IfOk result (λ groups. AreClosed spec.now.net groups) }

@@ -7,7 +7,9 @@ use Rattle.stg_conflict.specs.declared.clash.Clash.{Clash}
 
 -- whether c is the lesser: by the first transition, then by the second, then by the place
 abbrev pub is_lesser : Clash → Clash → Bool
-is_lesser c d = nat_lt c.t1 d.t1 || (c.t1 == d.t1) && (nat_lt c.t2 d.t2 || (c.t2 == d.t2) && nat_lt c.place d.place)
+is_lesser c d =
+    nat_lt c.t1 d.t1
+    || (c.t1 == d.t1) && (nat_lt c.t2 d.t2 || (c.t2 == d.t2) && nat_lt c.place d.place)
 
 -- the lesser of two, where there is one
 abbrev pub lesser : Option Clash → Option Clash → Option Clash
@@ -21,13 +23,21 @@ have_label x y = (x.signal == y.signal) && is_edge x.edge y.edge
 
 -- whether two arcs of one place are those by which two transitions of one label take
 abbrev pub are_clashing : List TransName → NetArc → NetArc → Bool
-are_clashing trans a b = have_label (trans_at trans a.trans) (trans_at trans b.trans) && not a.into && not b.into
+are_clashing trans a b =
+    have_label (trans_at trans a.trans) (trans_at trans b.trans) && not a.into && not b.into
 
--- the clash of a with the first later arc that clashes with it, up to the first arc of another place
+-- the clash of a with the first later arc that clashes with
+-- it, up to the first arc of another place
 abbrev pub first_clash : List TransName → NetArc → List NetArc → Option Clash
 first_clash trans a [] = None
 first_clash trans a (b ∷ arcs) =
-    if b.place == a.place then (if are_clashing trans a b then Some (record { t1 = a.trans; t2 = b.trans; place = a.place }) else first_clash trans a arcs) else None
+    if b.place == a.place
+    then (
+    if are_clashing trans a b
+    then Some (record { t1 = a.trans; t2 = b.trans; place = a.place })
+    else first_clash trans a arcs
+    )
+    else None
 
 -- the least of the clashes of all arcs
 abbrev pub least_clash : List TransName → List NetArc → Option Clash
