@@ -1,5 +1,6 @@
 -- What is promised.
 pub mod Refusals
+pub mod RuleNumbers
 pub mod Rows
 pub mod Names
 pub mod Lists

@@ -3,6 +3,7 @@
 ghost use Rattle.std.specs.Prelude.{◌≡◌, Some};
 ghost use Rattle.astg_read.specs.declared.rule.ReadError.TheVariants.{NoMemory as want};
 ghost use Rattle.astg_read.specs.Refusals.{rule_text};
+ghost use Rattle.astg_read.specs.RuleNumbers.{rule_number};
 
 use std::fmt;
 use stg_net::NoMemory;
@@ -14,10 +15,11 @@ pub enum Rule {
     BadByte = 1,
     /// Outside a marking, a first word that begins with `.` and is no directive.
     UnknownDirective = 2,
-    /// A header line or `.graph` after `.graph`, or a graph line or `.marking` before `.graph` or after
-    /// the marking.
+    /// A header line or `.graph` after `.graph`, or a graph line or `.marking` before `.graph` or
+    /// after the marking.
     OutOfOrder = 3,
-    /// A declared word that is no name, a word after `.graph`, or a source or target that is no node.
+    /// A declared word that is no name, a word after `.graph`, or a
+    /// source or target that is no node.
     BadName = 4,
     /// A name that was declared before.
     DeclaredTwice = 5,
@@ -29,11 +31,11 @@ pub enum Rule {
     BadArc = 8,
     /// A source and a target that stood together before.
     RepeatedArc = 9,
-    /// A weight group of another form, at another place or between two transitions, or a weight that
-    /// isn't from 1 to the limit.
+    /// A weight group of another form, at another place or between two transitions, or a weight
+    /// that isn't from 1 to the limit.
     BadWeight = 10,
-    /// A word that goes on no marking, a place that isn't there or was named before, or tokens above
-    /// the limit.
+    /// A word that goes on no marking, a place that isn't there or was named before, or tokens
+    /// above the limit.
     BadMarking = 11,
     /// `.end` before `.graph`, or a text that ends with neither.
     NoGraph = 12,
@@ -45,6 +47,15 @@ pub enum Rule {
     HasDummy = 15,
     /// More bytes than the limit.
     TooLong = 16,
+}
+
+impl Rule {
+    /// The number of the rule, from 1 to 16, in the order of docs/FORMATS.md.
+    pub fn number(self) -> u8
+        ensures { result ≡ rule_number self }
+    {
+        self as u8
+    }
 }
 
 impl fmt::Display for Rule {

@@ -4,6 +4,7 @@ pub mod LimitValues
 pub mod Names
 pub mod Words
 pub mod Building
+pub mod ErrorNumbers
 pub mod Builder
 pub mod Ordered
 pub mod Component

@@ -5,6 +5,7 @@ ghost use Rattle.std.specs.List.Sorted.{IsPermutation};
 ghost use Rattle.stg_net.specs.declared.arc.NetArc.{NetArc};
 ghost use Rattle.stg_net.specs.declared.trans.TransName.{TransName};
 ghost use Rattle.stg_net.specs.Net.{IsNet, IsWithin, number_of};
+ghost use Rattle.stg_net.specs.ErrorNumbers.{error_number};
 ghost use Rattle.stg_net.specs.declared.builder.BuildError.TheVariants.{NoMemory};
 ghost use Rattle.stg_net.specs.Building.{HasEnds, OnlyErr, with_signal, with_trans, with_place, with_arc, with_tokens, empty_building};
 
@@ -26,6 +27,15 @@ pub enum BuildError {
     TooManyArcs = 4,
     /// Memory has run out.
     NoMemory = 5,
+}
+
+impl BuildError {
+    /// The number of the error, from 1 to 5.
+    pub fn number(self) -> u8
+        ensures { result ≡ error_number self }
+    {
+        self as u8
+    }
 }
 
 impl From<AllocError> for BuildError {
@@ -98,9 +108,11 @@ impl NetBuilder {
     pub fn add_signal(&mut self, name: &[u8], kind: Kind) -> Result<u32, BuildError>
         requires { number_of name.now self.old.lists.signals ≡ None }
         ensures number { IfOk result (λ k. k ≡ length self.old.lists.signals) }
-        ensures ok { OnOk result (self.new ≡ with_signal self.old (record { name = name.now; kind = kind })) }
+        ensures ok { OnOk result
+            (self.new ≡ with_signal self.old (record { name = name.now; kind = kind })) }
         ensures room { OnOk result (length self.old.lists.signals < self.old.limits.signals) }
-        ensures full { IsErrOf result BuildError.TooManySignals ↔ (length self.old.lists.signals ≡ self.old.limits.signals) }
+        ensures full { IsErrOf result BuildError.TooManySignals
+            ↔ (length self.old.lists.signals ≡ self.old.limits.signals) }
         ensures only { OnlyErr BuildError.TooManySignals result }
         ensures err { OnErr result (self.new ≡ self.old) }
     {
@@ -113,15 +125,16 @@ impl NetBuilder {
         Ok(number as u32)
     }
 
-    /// Adds a transition last and gives its number. An error is `TooManyTransitions` where the limit
-    /// is met, and `NoMemory` otherwise.
+    /// Adds a transition last and gives its number. An error is `TooManyTransitions` where the
+    /// limit is met, and `NoMemory` otherwise.
     pub fn add_trans(&mut self, name: TransName) -> Result<u32, BuildError>
         requires signal { name.signal < length self.old.lists.signals }
         requires fresh { All (λ (t : TransName). t ≢ name) self.old.lists.trans }
         ensures number { IfOk result (λ k. k ≡ length self.old.lists.trans) }
         ensures ok { OnOk result (self.new ≡ with_trans self.old name) }
         ensures room { OnOk result (length self.old.lists.trans < self.old.limits.trans) }
-        ensures full { IsErrOf result BuildError.TooManyTransitions ↔ (length self.old.lists.trans ≡ self.old.limits.trans) }
+        ensures full { IsErrOf result BuildError.TooManyTransitions
+            ↔ (length self.old.lists.trans ≡ self.old.limits.trans) }
         ensures only { OnlyErr BuildError.TooManyTransitions result }
         ensures err { OnErr result (self.new ≡ self.old) }
     {
@@ -140,8 +153,10 @@ impl NetBuilder {
         ensures number { IfOk result (λ k. k ≡ length self.old.lists.tokens) }
         ensures ok { OnOk result (self.new ≡ with_place self.old tokens) }
         ensures room { OnOk result (length self.old.lists.tokens < self.old.limits.places) }
-        ensures unused { OnOk result (All (λ (a : NetArc). a.place < length self.old.lists.tokens) self.old.lists.arcs) }
-        ensures full { IsErrOf result BuildError.TooManyPlaces ↔ (length self.old.lists.tokens ≡ self.old.limits.places) }
+        ensures unused { OnOk result
+            (All (λ (a : NetArc). a.place < length self.old.lists.tokens) self.old.lists.arcs) }
+        ensures full { IsErrOf result BuildError.TooManyPlaces
+            ↔ (length self.old.lists.tokens ≡ self.old.limits.places) }
         ensures only { OnlyErr BuildError.TooManyPlaces result }
         ensures err { OnErr result (self.new ≡ self.old) }
     {
@@ -163,7 +178,8 @@ impl NetBuilder {
         requires fresh { All (λ (a : NetArc). HasEnds arc a → ⊥) self.old.lists.arcs }
         ensures ok { OnOk result (self.new ≡ with_arc self.old arc) }
         ensures room { OnOk result (length self.old.lists.arcs < self.old.limits.arcs) }
-        ensures full { IsErrOf result BuildError.TooManyArcs ↔ (length self.old.lists.arcs ≡ self.old.limits.arcs) }
+        ensures full { IsErrOf result BuildError.TooManyArcs
+            ↔ (length self.old.lists.arcs ≡ self.old.limits.arcs) }
         ensures only { OnlyErr BuildError.TooManyArcs result }
         ensures err { OnErr result (self.new ≡ self.old) }
     {
