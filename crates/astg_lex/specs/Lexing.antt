@@ -43,9 +43,12 @@ word_views words = map word_view words
 -- the words stand in the text one after the other, each with its own bytes
 abbrev pub AreSpans : List ℕ → ℕ → List WordAt → Type 0
 AreSpans text at [] = Unit {0}
-AreSpans text at (w ∷ ws) = (at ≤ w.start) × (w.start < w.end) × (w.text ≡ slice_range text w.start w.end) × AreSpans text w.end ws
+AreSpans text at (w ∷ ws) =
+    (at ≤ w.start) × (w.start < w.end) × (w.text ≡ slice_range text w.start w.end)
+    × AreSpans text w.end ws
 
--- A line was read: it is the first of those that were left, it has this number and these words, and the text behind it is left.
+-- A line was read: it is the first of those that were left, it has this number and these
+-- words, and the text behind it is left.
 pub record Advances (old new : Lexing) (number : ℕ) (words : List Word) : Type 0 where
   pub numbered : number ≡ old.number + 1
   pub first : lines_left old ≡ this_line old ∷ lines_left new

@@ -33,9 +33,13 @@ longer at b (w ∷ ws) = record { text = b ∷ w.text; start = at; end = w.end }
 
 -- the words from a byte on, where the words after it are known
 abbrev pub words_with : ℕ → ℕ → List ℕ → List WordAt → List WordAt
-words_with at b bs words = if is_blank b then words else if is_joining b && begins_joining bs then longer at b words else record { text = b ∷ []; start = at; end = at + 1 } ∷ words
+words_with at b bs words =
+    if is_blank b then words
+    else if is_joining b && begins_joining bs then longer at b words
+    else record { text = b ∷ []; start = at; end = at + 1 } ∷ words
 
--- the words of these bytes, which begin at a place in the text: each single byte, and each longest run of joining ones
+-- the words of these bytes, which begin at a place in the text: each single
+-- byte, and each longest run of joining ones
 abbrev pub words_at : ℕ → List ℕ → List WordAt
 words_at at [] = []
 words_at at (b ∷ bs) = words_with at b bs (words_at (at + 1) bs)

@@ -51,7 +51,8 @@ impl<'a> Model for Lines<'a> {
 
     ghost view = { λ l. record { text = l.text.now; at = l.at; number = l.number } };
 
-    ghost invariant = { λ l. IsLexing (record { text = l.text.now; at = l.at; number = l.number }) };
+    ghost invariant = { λ l. IsLexing
+        (record { text = l.text.now; at = l.at; number = l.number }) };
 }
 
 impl<'a> Lines<'a> {
@@ -71,9 +72,11 @@ impl<'a> Lines<'a> {
     /// again by each further call.
     pub fn next_line(&mut self) -> Result<Option<Line<'a>>, LexError>
         ensures none { (result ≡ Ok None) ↔ (lines_left self.old ≡ []) }
-        ensures line { IfOk result (λ l. IfSome l (λ line. Advances self.old self.new line.number line.words)) }
+        ensures line { IfOk result
+            (λ l. IfSome l (λ line. Advances self.old self.new line.number line.words)) }
         ensures end { IfOk result (λ l. l ≡ None → self.new ≡ self.old) }
-        ensures bad_byte { IsErrOf result (BadByte (self.old.number + 1)) ↔ ((lines_left self.old ≢ []) × (has_bad_byte (this_line self.old) ≡ true)) }
+        ensures bad_byte { IsErrOf result (BadByte (self.old.number + 1))
+            ↔ ((lines_left self.old ≢ []) × (has_bad_byte (this_line self.old) ≡ true)) }
         ensures only { IfErr result (λ e. (e ≡ BadByte (self.old.number + 1)) ⊎ (e ≡ NoMemory)) }
         ensures err { OnErr result (self.new ≡ self.old) }
     {

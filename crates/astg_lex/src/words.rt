@@ -21,7 +21,9 @@ fn push_first<'a>(words: &mut Seq<Word<'a>>, code: &'a [u8], at: u32) -> Result<
     requires short { at + length code.now < 2 ^ 32 }
     ensures least { IfOk result (λ n. 1 ≤ n) }
     ensures most { IfOk result (λ n. n ≤ length code.now) }
-    ensures ok { IfOk result (λ n. word_views words.new ++ words_at (at + n) (drop n code.now) ≡ word_views words.old ++ words_at at code.now) }
+    ensures ok { IfOk result
+        (λ n. word_views words.new ++ words_at (at + n) (drop n code.now)
+        ≡ word_views words.old ++ words_at at code.now) }
     ensures err { OnErr result (words.new ≡ words.old) }
 {
     if is_blank(code[0]) {

@@ -20,7 +20,12 @@ same_text_arc a b = same_node a.source b.source && same_node a.target b.target
 
 -- the text arc from a source to a target
 abbrev pub text_arc_of : Declared → Word → Target → Option TextArc
-text_arc_of d source t = option_map (λ word. record { source = node_of d source; target = node_of d word; weight = group_weight t.group }) t.word
+text_arc_of d source t =
+    option_map (λ word. record {
+      source = node_of d source;
+      target = node_of d word;
+      weight = group_weight t.group;
+    }) t.word
 
 -- the text arcs of a line, in order
 abbrev pub text_arcs_on : Declared → Row → List TextArc
@@ -72,11 +77,16 @@ source_on d (w ∷ ws) = node_of d w ∷ []
 
 -- the transitions as they appear on a line, word by word
 abbrev pub trans_on : Declared → Row → List TransName
-trans_on d row = flat_map node_trans (source_on d row) ++ flat_map (λ (p : TextArc). node_trans p.target) (text_arcs_on d row)
+trans_on d row =
+    flat_map node_trans (source_on d row)
+    ++ flat_map (λ (p : TextArc). node_trans p.target) (text_arcs_on d row)
 
 -- the places as they appear on a line, one between two transitions after its target
 abbrev pub places_on : Declared → Row → List PlaceAt
-places_on d row = flat_map node_place (source_on d row) ++ flat_map (λ (p : TextArc). node_place p.target ++ place_between p.source p.target) (text_arcs_on d row)
+places_on d row =
+    flat_map node_place (source_on d row)
+    ++ flat_map (λ (p : TextArc). node_place p.target ++ place_between p.source p.target)
+    (text_arcs_on d row)
 
 -- the transitions in order of first appearance
 abbrev pub transitions : Declared → List Row → List TransName
@@ -96,17 +106,30 @@ place_number all p = unwrap_or (position (same_place p) all) 0
 
 -- the arc from a transition into a place
 abbrev pub into_place : List TransName → List PlaceAt → PlaceAt → TransName → ℕ → NetArc
-into_place trans all p t weight = record { place = place_number all p; trans = trans_number trans t; into = true; weight = weight }
+into_place trans all p t weight =
+    record {
+      place = place_number all p;
+      trans = trans_number trans t;
+      into = true;
+      weight = weight;
+    }
 
 -- the arc out of a place to a transition
 abbrev pub out_of_place : List TransName → List PlaceAt → PlaceAt → TransName → ℕ → NetArc
-out_of_place trans all p t weight = record { place = place_number all p; trans = trans_number trans t; into = false; weight = weight }
+out_of_place trans all p t weight =
+    record {
+      place = place_number all p;
+      trans = trans_number trans t;
+      into = false;
+      weight = weight;
+    }
 
 -- the arcs from one node to another: one, or the two of the place between
 abbrev pub node_arcs : List TransName → List PlaceAt → ℕ → Node → Node → List NetArc
 node_arcs trans all weight (Trans t) (Place p) = into_place trans all (Named p) t weight ∷ []
 node_arcs trans all weight (Place p) (Trans t) = out_of_place trans all (Named p) t weight ∷ []
-node_arcs trans all weight (Trans t) (Trans u) = into_place trans all (Between t u) t 1 ∷ out_of_place trans all (Between t u) u 1 ∷ []
+node_arcs trans all weight (Trans t) (Trans u) =
+    into_place trans all (Between t u) t 1 ∷ out_of_place trans all (Between t u) u 1 ∷ []
 node_arcs trans all weight (Place p) (Place q) = []
 
 -- the arcs of a text arc, whose weight is 1 where none is given

@@ -30,7 +30,11 @@ dummies_on row = if begins (codes ".dummy") row then after_first row else []
 
 -- what the lines declare before .graph
 abbrev pub declared_in : List Row → Declared
-declared_in rows = record { signals = flat_map signals_on (header_rows rows); dummies = flat_map dummies_on (header_rows rows) }
+declared_in rows =
+    record {
+      signals = flat_map signals_on (header_rows rows);
+      dummies = flat_map dummies_on (header_rows rows);
+    }
 
 -- the two signals have one name
 abbrev pub same_name : Signal → Signal → Bool

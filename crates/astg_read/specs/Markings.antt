@@ -34,7 +34,8 @@ is_comma = is (codes ",")
 abbrev pub is_equals : Word → Bool
 is_equals = is (codes "=")
 
--- An entry: the words of its place, which are one or up to five from < on, and up to two from = on. As many as there are.
+-- An entry: the words of its place, which are one or up to five from < on, and up
+-- to two from = on. As many as there are.
 pub record Entry : Type 0 where
   pub place : Row
   pub tokens : Row
@@ -50,7 +51,9 @@ token_words (w ∷ ws) = if is_equals w then take 2 (w ∷ ws) else []
 
 -- the entry that begins with the first of these words
 abbrev pub entry_at : Word → Row → Entry
-entry_at w ws = let place = place_words w ws in record { place = place; tokens = token_words (drop (length place) (w ∷ ws)) }
+entry_at w ws =
+    let place = place_words w ws in
+    record { place = place; tokens = token_words (drop (length place) (w ∷ ws)) }
 
 -- how many words after its first an entry has
 abbrev pub further_words : Entry → ℕ
@@ -153,7 +156,8 @@ named_place d words = None
 
 -- the words name one of these places
 abbrev pub names_one : Declared → List PlaceAt → Row → Bool
-names_one d places words = option_map_or (λ p. list_any (same_place p) places) (named_place d words) false
+names_one d places words =
+    option_map_or (λ p. list_any (same_place p) places) (named_place d words) false
 
 -- these places, and the one that the words name
 abbrev pub with_named : Declared → List PlaceAt → Row → List PlaceAt
@@ -164,7 +168,8 @@ abbrev pub tokens_of : Row → ℕ
 tokens_of (e ∷ n ∷ []) = unwrap_or (number n) 1
 tokens_of words = 1
 
--- the words of the entry begin none, or miss one though the marking is closed; its place isn't there, or was named before; its tokens pass the limit
+-- the words of the entry begin none, or miss one though the marking is closed; its place isn't
+-- there, or was named before; its tokens pass the limit
 abbrev pub is_bad_entry : ℕ → Declared → List PlaceAt → Bool → List PlaceAt → Entry → Bool
 is_bad_entry most d places is_closed named e =
     not (starts_entry d e)
@@ -175,7 +180,9 @@ is_bad_entry most d places is_closed named e =
 -- one of the entries is wrong, after others that named these places
 abbrev pub has_bad_entry : ℕ → Declared → List PlaceAt → Bool → List PlaceAt → List Entry → Bool
 has_bad_entry most d places is_closed named [] = false
-has_bad_entry most d places is_closed named (e ∷ es) = is_bad_entry most d places is_closed named e || has_bad_entry most d places is_closed (with_named d named e.place) es
+has_bad_entry most d places is_closed named (e ∷ es) =
+    is_bad_entry most d places is_closed named e
+    || has_bad_entry most d places is_closed (with_named d named e.place) es
 
 -- the first word is {, where there is one
 abbrev pub starts_marking : Row → Bool
@@ -192,7 +199,9 @@ is_bad_marking most d places words =
 -- the tokens of a place: those of its entry, or none
 abbrev pub entry_tokens : Declared → List Entry → PlaceAt → ℕ
 entry_tokens d [] p = 0
-entry_tokens d (e ∷ es) p = if option_map_or (same_place p) (named_place d e.place) false then tokens_of e.tokens else entry_tokens d es p
+entry_tokens d (e ∷ es) p =
+    if option_map_or (same_place p) (named_place d e.place) false then tokens_of e.tokens
+    else entry_tokens d es p
 
 -- the marking has begun, and has no } yet
 abbrev pub is_unfinished : Option Row → Bool

@@ -27,7 +27,11 @@ pub record WordOfTrans : Type 0 where
 
 -- the edge of + (43), - (45) or ~ (126)
 abbrev pub edge_of : ℕ → Option Edge
-edge_of c = if c == 43 then Some Rise else if c == 45 then Some Fall else if c == 126 then Some Toggle else None
+edge_of c =
+    if c == 43 then Some Rise
+    else if c == 45 then Some Fall
+    else if c == 126 then Some Toggle
+    else None
 
 -- the index 0 where nothing stands, and the number after / (47)
 abbrev pub index_of : Word → Option ℕ
@@ -37,8 +41,14 @@ index_of (c ∷ cs) = if c == 47 then number cs else None
 -- an edge, and the index after it
 abbrev pub change_of : Word → Option (Edge × ℕ)
 change_of [] = None
-change_of (c ∷ cs) = option_and_then (λ edge. option_map (λ index. (edge, index)) (index_of cs)) (edge_of c)
+change_of (c ∷ cs) =
+    option_and_then (λ edge. option_map (λ index. (edge, index)) (index_of cs)) (edge_of c)
 
 -- the longest name in front, an edge, and the index after it
 abbrev pub read_trans_word : Word → Option WordOfTrans
-read_trans_word w = let name = take_while is_in_name w in if is_name name then option_map (λ (c : Edge × ℕ). record { name = name; edge = c.0; index = c.1 }) (change_of (drop (length name) w)) else None
+read_trans_word w =
+    let name = take_while is_in_name w in
+    if is_name name
+    then option_map (λ (c : Edge × ℕ). record { name = name; edge = c.0; index = c.1 })
+    (change_of (drop (length name) w))
+    else None

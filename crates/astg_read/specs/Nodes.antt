@@ -31,7 +31,9 @@ front_name w = take_while is_in_name w
 
 -- a dummy's name, and the index after it; a dummy has no edge of its own
 abbrev pub dummy_word : Word → Option WordOfTrans
-dummy_word w = option_map (λ index. record { name = front_name w; edge = Toggle; index = index }) (index_of (drop (length (front_name w)) w))
+dummy_word w =
+    option_map (λ index. record { name = front_name w; edge = Toggle; index = index })
+    (index_of (drop (length (front_name w)) w))
 
 -- what the word of a transition says: a dummy has a word of its own, and no word with an edge
 abbrev pub trans_word_parts : Declared → Word → Option WordOfTrans
@@ -39,7 +41,9 @@ trans_word_parts d w = if is_dummy d (front_name w) then dummy_word w else read_
 
 -- the transition of the signal that has the word's name
 abbrev pub with_number : List Signal → WordOfTrans → Option TransName
-with_number signals p = option_map (λ n. record { signal = n; edge = p.edge; index = p.index }) (number_of p.name signals)
+with_number signals p =
+    option_map (λ n. record { signal = n; edge = p.edge; index = p.index })
+    (number_of p.name signals)
 
 -- the transition of a declared name for which a word stands
 abbrev pub trans_of_word : Declared → Word → Option TransName

@@ -22,7 +22,8 @@ pub record Fault : Type 0 where
   pub rule : Rule
   pub line : ℕ
 
--- What a text stands for: a net with its arcs in the order of the text, its places, and the names of its dummies.
+-- What a text stands for: a net with its arcs in the order of the text, its
+-- places, and the names of its dummies.
 pub record Meaning : Type 0 where
   pub lists : NetLists
   pub places : List PlaceAt
@@ -36,7 +37,12 @@ tokens_by d (Some words) p = entry_tokens d (entries_of words) p
 -- what the lines up to .end stand for
 abbrev pub meaning_of : Said → Meaning
 meaning_of k = record {
-  lists = record { signals = k.declared.signals; trans = k.trans; tokens = map (tokens_by k.declared k.marking) k.places; arcs = arcs_in k };
+  lists = record {
+    signals = k.declared.signals;
+    trans = k.trans;
+    tokens = map (tokens_by k.declared k.marking) k.places;
+    arcs = arcs_in k;
+  };
   places = k.places;
   dummies = k.declared.dummies;
 }
@@ -50,12 +56,15 @@ or_fault line (Some rule) later = Err (record { rule = rule; line = line })
 abbrev pub missing : Bool → Rule
 missing has_graph = if has_graph then NoEnd else NoGraph
 
--- What lines stand for after those before, or the first one that breaks a rule. Nothing after .end is looked at. The text ends on a line of this number.
+-- What lines stand for after those before, or the first one that breaks a rule. Nothing after .end
+-- is looked at. The text ends on a line of this number.
 abbrev pub reading_after : Bool → Limits → ℕ → List Row → List Line → Result Meaning Fault
-reading_after is_raw limits last before [] = Err (record { rule = missing (has_graph before); line = last })
+reading_after is_raw limits last before [] =
+    Err (record { rule = missing (has_graph before); line = last })
 reading_after is_raw limits last before (l ∷ ls) =
     or_fault (length before + 1) (broken_by is_raw limits before l)
-    (if ends_text (said before) l.words then Ok (meaning_of (said before)) else reading_after is_raw limits last (before ++ l.words ∷ []) ls)
+    (if ends_text (said before) l.words then Ok (meaning_of (said before))
+    else reading_after is_raw limits last (before ++ l.words ∷ []) ls)
 
 -- what a text stands for, or its first fault
 abbrev pub reading : Bool → Limits → List ℕ → Result Meaning Fault

@@ -22,7 +22,9 @@ after_first (w ∷ ws) = ws
 
 -- the line declares names
 abbrev pub declares : Row → Bool
-declares row = begins (codes ".inputs") row || begins (codes ".outputs") row || begins (codes ".internal") row || begins (codes ".dummy") row
+declares row =
+    begins (codes ".inputs") row || begins (codes ".outputs") row || begins (codes ".internal") row
+    || begins (codes ".dummy") row
 
 -- the line stands in the header
 abbrev pub is_header : Row → Bool
@@ -60,12 +62,15 @@ rows_after_graph (row ∷ rows) = if begins (codes ".graph") row then rows else 
 -- the lines before .marking
 abbrev pub before_marking : List Row → List Row
 before_marking [] = []
-before_marking (row ∷ rows) = if begins (codes ".marking") row then [] else row ∷ before_marking rows
+before_marking (row ∷ rows) =
+    if begins (codes ".marking") row then [] else row ∷ before_marking rows
 
 -- the words after .marking, over all lines from there on
 abbrev pub words_of_marking : List Row → Option Row
 words_of_marking [] = None
-words_of_marking (row ∷ rows) = if begins (codes ".marking") row then Some (after_first row ++ flat_map (λ r. r) rows) else words_of_marking rows
+words_of_marking (row ∷ rows) =
+    if begins (codes ".marking") row then Some (after_first row ++ flat_map (λ r. r) rows)
+    else words_of_marking rows
 
 -- the lines of the graph
 abbrev pub graph_rows : List Row → List Row

@@ -18,13 +18,17 @@ use Rattle.astg_read.specs.Said.{Said, said, arcs_in}
 
 -- outside a marking, a line that begins with a dot and is none of the known directives
 abbrev pub breaks_directive : Row → Bool
-breaks_directive row = is_directive row && not (is_header row || begins (codes ".graph") row || begins (codes ".marking") row || begins (codes ".end") row)
+breaks_directive row =
+    is_directive row
+    && not (is_header row || begins (codes ".graph") row || begins (codes ".marking") row
+    || begins (codes ".end") row)
 
 -- the line may not stand here, by its kind
 abbrev pub breaks_order : Said → Row → Bool
 breaks_order k row =
     ((is_header row || begins (codes ".graph") row) && k.has_graph)
-    || ((is_graph_row row || begins (codes ".marking") row) && (not k.has_graph || is_some k.marking))
+    || ((is_graph_row row || begins (codes ".marking") row)
+    && (not k.has_graph || is_some k.marking))
 
 -- a declared word that is no name, a word after .graph, or a source or target that is no node
 abbrev pub breaks_names : Said → Row → Bool
@@ -51,11 +55,16 @@ has_bad_arc k row = is_graph_row row && list_any is_between_places (text_arcs_on
 
 -- on a graph line, a source and a target that stood together before
 abbrev pub repeats_arc : Said → Row → Bool
-repeats_arc k row = is_graph_row row && has_repeat same_text_arc k.text_arcs (text_arcs_on k.declared row)
+repeats_arc k row =
+    is_graph_row row && has_repeat same_text_arc k.text_arcs (text_arcs_on k.declared row)
 
--- on a graph line, a weight group that holds no weight or stands after no target, or a weight between two transitions
+-- on a graph line, a weight group that holds no weight or stands after no
+-- target, or a weight between two transitions
 abbrev pub has_bad_weight : ℕ → Said → Row → Bool
-has_bad_weight most k row = is_graph_row row && (not (list_all (is_good_group most) (targets_of row)) || list_any weighs_trans (text_arcs_on k.declared row))
+has_bad_weight most k row =
+    is_graph_row row
+    && (not (list_all (is_good_group most) (targets_of row))
+    || list_any weighs_trans (text_arcs_on k.declared row))
 
 -- the words of the marking, with those of this line
 abbrev pub marking_with : Said → Row → Row
@@ -97,7 +106,8 @@ line_rules most k row =
     ∷ (begins (codes ".end") row && not k.has_graph, NoGraph)
     ∷ []
 
--- Those rules, and the last two; with_row is what the lines say with this one. In a raw text dummies may stand, and count; elsewhere they are refused, and don't count.
+-- Those rules, and the last two; with_row is what the lines say with this one. In a raw text
+-- dummies may stand, and count; elsewhere they are refused, and don't count.
 abbrev pub outside_rules : Bool → Limits → Said → Said → Row → List (Bool × Rule)
 outside_rules is_raw limits k with_row row =
     line_rules limits.weight k row
@@ -117,7 +127,10 @@ seen_line line = record { is_bad = has_bad_byte line; words = words_of line }
 -- the rules that a line can break: inside a marking a bad byte and the marking's own
 abbrev pub rules : Bool → Limits → Said → Said → Line → List (Bool × Rule)
 rules is_raw limits k with_row line =
-    (line.is_bad, BadByte) ∷ (if is_unfinished k.marking then (breaks_marking limits.weight k line.words, BadMarking) ∷ [] else outside_rules is_raw limits k with_row line.words)
+    (line.is_bad, BadByte)
+    ∷ (if is_unfinished k.marking
+    then (breaks_marking limits.weight k line.words, BadMarking) ∷ []
+    else outside_rules is_raw limits k with_row line.words)
 
 -- the first rule whose test is true
 abbrev pub first_broken : List (Bool × Rule) → Option Rule
@@ -126,4 +139,5 @@ first_broken (r ∷ rs) = if r.0 then Some r.1 else first_broken rs
 
 -- the first rule that a line breaks, after the lines before it
 abbrev pub broken_by : Bool → Limits → List Row → Line → Option Rule
-broken_by is_raw limits before line = first_broken (rules is_raw limits (said before) (said (before ++ line.words ∷ [])) line)
+broken_by is_raw limits before line =
+    first_broken (rules is_raw limits (said before) (said (before ++ line.words ∷ [])) line)

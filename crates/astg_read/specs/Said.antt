@@ -6,7 +6,8 @@ use Rattle.astg_read.specs.Rows.{Row, has_graph, graph_rows, marking_words}
 use Rattle.astg_read.specs.Header.{Declared, declared_in}
 use Rattle.astg_read.specs.Graphs.{TextArc, PlaceAt, transitions, places, text_arcs, arcs}
 
--- whether .graph stood, what the header declares, what the graph's lines say, and the words of the marking
+-- whether .graph stood, what the header declares, what the graph's
+-- lines say, and the words of the marking
 pub record Said : Type 0 where
   pub has_graph : Bool
   pub declared : Declared

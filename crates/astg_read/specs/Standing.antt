@@ -22,7 +22,8 @@ pub record StandsForNet (limits : Limits) (text : List ℕ) (n : NetLists) : Typ
 
 -- the text's first bad line is this one, and the first rule that it breaks is this one
 abbrev pub IsUnread : Limits → List ℕ → Rule → ℕ → Type 0
-IsUnread limits text rule line = reading false limits text ≡ Err (record { rule = rule; line = line })
+IsUnread limits text rule line =
+    reading false limits text ≡ Err (record { rule = rule; line = line })
 
 -- an error that tells a rule and a line tells those of the text
 abbrev pub IsUnreadBy : Limits → List ℕ → ReadError → Type 0

@@ -3,7 +3,8 @@ use Rattle.std.specs.Prelude.{ℕ, zero, suc, Bool, false, ◌&&◌, ◌||◌, n
 use Rattle.astg_read.specs.Rows.{Word, Row}
 use Rattle.astg_read.specs.Names.{number}
 
--- A target with the weight group directly after it, which is empty where there is none. A group that stands after no target is alone.
+-- A target with the weight group directly after it, which is empty where there is none. A group
+-- that stands after no target is alone.
 pub record Target : Type 0 where
   pub word : Option Word
   pub group : Row
@@ -23,7 +24,9 @@ group_at (w ∷ ws) = if opens_group w then take 3 (w ∷ ws) else []
 
 -- the target that begins here
 abbrev pub target_at : Word → Row → Target
-target_at w ws = if opens_group w then record { word = None; group = take 3 (w ∷ ws) } else record { word = Some w; group = group_at ws }
+target_at w ws =
+    if opens_group w then record { word = None; group = take 3 (w ∷ ws) }
+    else record { word = Some w; group = group_at ws }
 
 -- how many words after the first belong to a target
 abbrev pub group_words : Word → Row → ℕ
@@ -61,4 +64,5 @@ is_weight most (Some n) = nat_le 1 n && nat_le n most
 
 -- there is no group, or it stands after a target and holds a weight
 abbrev pub is_good_group : ℕ → Target → Bool
-is_good_group most t = nat_eq (length t.group) 0 || (is_some t.word && is_weight most (group_weight t.group))
+is_good_group most t =
+    nat_eq (length t.group) 0 || (is_some t.word && is_weight most (group_weight t.group))

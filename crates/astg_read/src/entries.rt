@@ -90,7 +90,8 @@ pub fn entries_of<'w, 'a>(
     alloc: Global,
     words: &'w [&'a [u8]],
 ) -> Result<Seq<Entry<'w, 'a>>, NoMemory>
-    ensures { IfOk result (λ entries. entry_views entries ≡ entries_after zero (slices_view words.now)) }
+    ensures { IfOk result
+        (λ entries. entry_views entries ≡ entries_after zero (slices_view words.now)) }
 {
     let mut entries = Seq::new(alloc);
     let mut rest = words;
@@ -222,7 +223,8 @@ fn between_both<'a>(from: Option<TransName>, to: Option<TransName>) -> Option<Te
 /// The place that the words of a whole place name.
 pub fn named_place<'a>(signals: &Signals<'_>, words: &[&'a [u8]]) -> Option<TextPlace<'a>>
     requires { length signals.now < 2 ^ 32 }
-    ensures { option_map place_view result ≡ markings.named_place (without_dummies signals.now) (slices_view words.now) }
+    ensures { option_map place_view result
+        ≡ markings.named_place (without_dummies signals.now) (slices_view words.now) }
 {
     if words.len() == 1 {
         named_by(words[0])

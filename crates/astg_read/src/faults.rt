@@ -19,8 +19,12 @@ use stg_net::NoMemory;
 
 /// Adds text arcs until one stands again, and tells whether all are new.
 fn add_text_arcs<'a>(graph: &mut TextGraph<'a>, text_arcs: &[TextArc<'a>]) -> Result<bool, NoMemory>
-    ensures fresh { IfOk result (λ all_new. all_new ≡ not (has_repeat same_text_arc graph.old.text_arcs (text_arc_views text_arcs.now))) }
-    ensures ok { IfOk result (λ all_new. IsTrue all_new → graph.new ≡ with_text_arcs graph.old (text_arc_views text_arcs.now)) }
+    ensures fresh { IfOk result
+        (λ all_new. all_new
+        ≡ not (has_repeat same_text_arc graph.old.text_arcs (text_arc_views text_arcs.now))) }
+    ensures ok { IfOk result
+        (λ all_new. IsTrue all_new
+        → graph.new ≡ with_text_arcs graph.old (text_arc_views text_arcs.now)) }
 {
     for text_arc in text_arcs {
         if !graph.add_text_arc(text_arc)? {
@@ -37,8 +41,13 @@ pub fn add_new_text_arcs<'a>(
     targets: &[Target<'_, 'a>],
     text_arcs: &[TextArc<'a>],
 ) -> Result<Option<Rule>, NoMemory>
-    ensures fault { IfOk result (λ fault. fault ≡ rules.text_arc_fault most graph.old.text_arcs (text_arc_views text_arcs.now) (target_views targets.now)) }
-    ensures ok { IfOk result (λ fault. fault ≡ None → graph.new ≡ with_text_arcs graph.old (text_arc_views text_arcs.now)) }
+    ensures fault { IfOk result
+        (λ fault. fault
+        ≡ rules.text_arc_fault most graph.old.text_arcs (text_arc_views text_arcs.now)
+        (target_views targets.now)) }
+    ensures ok { IfOk result
+        (λ fault. fault ≡ None
+        → graph.new ≡ with_text_arcs graph.old (text_arc_views text_arcs.now)) }
 {
     if any_between_places(text_arcs) {
         return Ok(Some(Rule::BadArc));
@@ -55,7 +64,9 @@ pub fn add_new_text_arcs<'a>(
 /// The rule that the words of a source and its targets break first.
 pub fn name_fault(signals: &Signals<'_>, source: &[u8], targets: &[Target<'_, '_>]) -> Option<Rule>
     requires { length signals.now < 2 ^ 32 }
-    ensures { result ≡ rules.name_fault (without_dummies signals.now) (source.now ∷ words_in (target_views targets.now)) }
+    ensures { result
+        ≡ rules.name_fault (without_dummies signals.now)
+        (source.now ∷ words_in (target_views targets.now)) }
 {
     if !is_node(source) || !are_nodes(targets) {
         Some(Rule::BadName)

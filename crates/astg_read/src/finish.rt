@@ -88,9 +88,15 @@ fn add_places(
     place_tokens: &[PlaceTokens<'_>],
     places: &[TextPlace<'_>],
 ) -> Result<(), NoMemory>
-    requires most { (p : PlaceAt) → listed.tokens_for (place_tokens_views place_tokens.now) p ≤ builder.old.limits.weight }
-    requires room { length builder.old.lists.tokens + length places.now ≤ builder.old.limits.places }
-    ensures { OnOk result (builder.new ≡ with_all_tokens builder.old (map (listed.tokens_for (place_tokens_views place_tokens.now)) (map place_view places.now))) }
+    requires most { (p : PlaceAt)
+        → listed.tokens_for (place_tokens_views place_tokens.now) p ≤ builder.old.limits.weight }
+    requires room { length builder.old.lists.tokens + length places.now
+        ≤ builder.old.limits.places }
+    ensures { OnOk result
+        (builder.new
+        ≡ with_all_tokens builder.old
+        (map (listed.tokens_for (place_tokens_views place_tokens.now))
+        (map place_view places.now))) }
 {
     for place in places {
         match builder.add_place(tokens_for(place_tokens, place)) {
@@ -110,8 +116,13 @@ fn add_into(
     to: &[u8],
     weight: Option<u32>,
 ) -> Result<(), NoMemory>
-    requires { IsReady builder.old trans.now.keys (map place_view places.now.keys) (record { source = nodes.Trans from; target = nodes.Place to.now; weight = weight }) }
-    ensures { OnOk result (builder.new ≡ with_all_arcs builder.old (graphs.arcs_of trans.now.keys (map place_view places.now.keys) (record { source = nodes.Trans from; target = nodes.Place to.now; weight = weight }))) }
+    requires { IsReady builder.old trans.now.keys (map place_view places.now.keys)
+        (record { source = nodes.Trans from; target = nodes.Place to.now; weight = weight }) }
+    ensures { OnOk result
+        (builder.new
+        ≡ with_all_arcs builder.old
+        (graphs.arcs_of trans.now.keys (map place_view places.now.keys)
+        (record { source = nodes.Trans from; target = nodes.Place to.now; weight = weight }))) }
 {
     let arc = NetArc {
         place: place_number(places, &TextPlace::Named(to)),
@@ -131,8 +142,13 @@ fn add_out_of(
     to: TransName,
     weight: Option<u32>,
 ) -> Result<(), NoMemory>
-    requires { IsReady builder.old trans.now.keys (map place_view places.now.keys) (record { source = nodes.Place from.now; target = nodes.Trans to; weight = weight }) }
-    ensures { OnOk result (builder.new ≡ with_all_arcs builder.old (graphs.arcs_of trans.now.keys (map place_view places.now.keys) (record { source = nodes.Place from.now; target = nodes.Trans to; weight = weight }))) }
+    requires { IsReady builder.old trans.now.keys (map place_view places.now.keys)
+        (record { source = nodes.Place from.now; target = nodes.Trans to; weight = weight }) }
+    ensures { OnOk result
+        (builder.new
+        ≡ with_all_arcs builder.old
+        (graphs.arcs_of trans.now.keys (map place_view places.now.keys)
+        (record { source = nodes.Place from.now; target = nodes.Trans to; weight = weight }))) }
 {
     let arc = NetArc {
         place: place_number(places, &TextPlace::Named(from)),
@@ -152,8 +168,13 @@ fn add_both(
     to: TransName,
     weight: Option<u32>,
 ) -> Result<(), NoMemory>
-    requires { IsReady builder.old trans.now.keys (map place_view places.now.keys) (record { source = nodes.Trans from; target = nodes.Trans to; weight = weight }) }
-    ensures { OnOk result (builder.new ≡ with_all_arcs builder.old (graphs.arcs_of trans.now.keys (map place_view places.now.keys) (record { source = nodes.Trans from; target = nodes.Trans to; weight = weight }))) }
+    requires { IsReady builder.old trans.now.keys (map place_view places.now.keys)
+        (record { source = nodes.Trans from; target = nodes.Trans to; weight = weight }) }
+    ensures { OnOk result
+        (builder.new
+        ≡ with_all_arcs builder.old
+        (graphs.arcs_of trans.now.keys (map place_view places.now.keys)
+        (record { source = nodes.Trans from; target = nodes.Trans to; weight = weight }))) }
 {
     let place = place_number(places, &TextPlace::Between(from, to));
     let into = NetArc {
@@ -181,8 +202,17 @@ fn add_text_arc(
     target: Node<'_>,
     weight: Option<u32>,
 ) -> Result<(), NoMemory>
-    requires { IsReady builder.old trans.now.keys (map place_view places.now.keys) (record { source = node_view source; target = node_view target; weight = weight }) }
-    ensures { OnOk result (builder.new ≡ with_all_arcs builder.old (graphs.arcs_of trans.now.keys (map place_view places.now.keys) (record { source = node_view source.entry; target = node_view target.entry; weight = weight }))) }
+    requires { IsReady builder.old trans.now.keys (map place_view places.now.keys)
+        (record { source = node_view source; target = node_view target; weight = weight }) }
+    ensures { OnOk result
+        (builder.new
+        ≡ with_all_arcs builder.old
+        (graphs.arcs_of trans.now.keys (map place_view places.now.keys)
+        (record {
+          source = node_view source.entry;
+          target = node_view target.entry;
+          weight = weight;
+        }))) }
 {
     match (source, target) {
         (Node::Trans(from), Node::Place(to)) => {
@@ -205,8 +235,13 @@ fn add_arcs(
     places: &IndexSet<TextPlace<'_>>,
     weights: IndexMap<Ends<'_>, Option<u32>>,
 ) -> Result<(), NoMemory>
-    requires { AreReady builder.old trans.now.keys (map place_view places.now.keys) (map weighed_view weights.entries) }
-    ensures { OnOk result (builder.new ≡ with_all_arcs builder.old (graphs.arcs trans.now.keys (map place_view places.now.keys) (map weighed_view weights.entry.entries))) }
+    requires { AreReady builder.old trans.now.keys (map place_view places.now.keys)
+        (map weighed_view weights.entries) }
+    ensures { OnOk result
+        (builder.new
+        ≡ with_all_arcs builder.old
+        (graphs.arcs trans.now.keys (map place_view places.now.keys)
+        (map weighed_view weights.entry.entries))) }
 {
     for (ends, weight) in weights {
         add_text_arc(builder, trans, places, ends.source, ends.target, weight)?;
@@ -221,7 +256,8 @@ fn place_name(
     place: &TextPlace<'_>,
 ) -> Result<PlaceName, NoMemory>
     requires { length trans.now.keys < 2 ^ 32 }
-    ensures { IfOk result (λ name. name ≡ readings.place_name trans.now.keys (place_view place.now)) }
+    ensures { IfOk result
+        (λ name. name ≡ readings.place_name trans.now.keys (place_view place.now)) }
 {
     match place {
         TextPlace::Named(name) => Ok(PlaceName::Named(Seq::from_slice(alloc, name)?)),
@@ -239,7 +275,8 @@ fn place_names(
     places: &[TextPlace<'_>],
 ) -> Result<Seq<PlaceName>, NoMemory>
     requires { length trans.now.keys < 2 ^ 32 }
-    ensures { IfOk result (λ names. names ≡ map (readings.place_name trans.now.keys) (map place_view places.now)) }
+    ensures { IfOk result
+        (λ names. names ≡ map (readings.place_name trans.now.keys) (map place_view places.now)) }
 {
     let mut names = Seq::new(alloc);
     for place in places {
@@ -258,8 +295,12 @@ fn net_of<'a>(
 ) -> Result<(Net, Seq<PlaceName>), NoMemory>
     requires limits { AreLimits limits.now }
     requires faultless { IsFaultless limits.now (said_by signals graph) }
-    requires tokens { (p : PlaceAt) → listed.tokens_for (place_tokens_views place_tokens.now) p ≤ limits.now.weight }
-    ensures built { IfOk result (λ r. IsBuilt signals.entry graph.entry (map (listed.tokens_for (place_tokens_views place_tokens.now)) graph.entry.places) (record { net = r.0; place_names = r.1 })) }
+    requires tokens { (p : PlaceAt)
+        → listed.tokens_for (place_tokens_views place_tokens.now) p ≤ limits.now.weight }
+    ensures built { IfOk result
+        (λ r. IsBuilt signals.entry graph.entry
+        (map (listed.tokens_for (place_tokens_views place_tokens.now)) graph.entry.places)
+        (record { net = r.0; place_names = r.1 })) }
     ensures within { IfOk result (λ r. IsWithin limits.now r.0) }
 {
     let mut builder = NetBuilder::new(alloc, *limits);
@@ -287,8 +328,11 @@ fn build<'a>(
 ) -> Result<Spec, NoMemory>
     requires limits { AreLimits limits.now }
     requires faultless { IsFaultless limits.now (said_by signals graph) }
-    requires tokens { (p : PlaceAt) → listed.tokens_for (place_tokens_views place_tokens.now) p ≤ limits.now.weight }
-    ensures value { IfOk result (λ s. IsBuilt signals.entry graph.entry (map (listed.tokens_for (place_tokens_views place_tokens.now)) graph.entry.places) s) }
+    requires tokens { (p : PlaceAt)
+        → listed.tokens_for (place_tokens_views place_tokens.now) p ≤ limits.now.weight }
+    ensures value { IfOk result
+        (λ s. IsBuilt signals.entry graph.entry
+        (map (listed.tokens_for (place_tokens_views place_tokens.now)) graph.entry.places) s) }
     ensures within { IfOk result (λ s. IsWithin limits.now s.net) }
 {
     let (net, names) = net_of(alloc, limits, signals, graph, place_tokens)?;
@@ -302,7 +346,10 @@ fn place_tokens_in<'a>(
     marking: &Option<Marking<'a>>,
 ) -> Result<Seq<PlaceTokens<'a>>, NoMemory>
     requires { length signals.now < 2 ^ 32 }
-    ensures { IfOk result (λ place_tokens. (p : PlaceAt) → listed.tokens_for (place_tokens_views place_tokens) p ≡ readings.tokens_by (without_dummies signals.now) marking.now p) }
+    ensures { IfOk result
+        (λ place_tokens. (p : PlaceAt)
+        → listed.tokens_for (place_tokens_views place_tokens) p
+        ≡ readings.tokens_by (without_dummies signals.now) marking.now p) }
 {
     match marking {
         None => Ok(Seq::new(alloc)),
@@ -317,7 +364,8 @@ fn place_tokens_in<'a>(
 pub fn finish<'a>(alloc: Global, limits: &Limits, reader: Reader<'a>) -> Result<Spec, NoMemory>
     requires limits { AreLimits limits.now }
     requires faultless { IsFaultless limits.now (said_of reader) }
-    ensures spec { IfOk result (λ s. readings.IsSpecOf (readings.meaning_of (said_of reader.entry)) s) }
+    ensures spec { IfOk result
+        (λ s. readings.IsSpecOf (readings.meaning_of (said_of reader.entry)) s) }
     ensures within { IfOk result (λ s. IsWithin limits.now s.net) }
 {
     let Reader {

@@ -63,9 +63,15 @@ fn is_bad_marking<'a>(
     words: &[&'a [u8]],
 ) -> Result<bool, NoMemory>
     requires small { length signals.now < 2 ^ 32 }
-    requires settled { IsSettled most (without_dummies signals.now) graph.now.places settled.old (markings.before_close (drop 1 (slices_view words.now))) }
-    ensures bad { IfOk result (λ is_bad. is_bad ≡ markings.is_bad_marking most (without_dummies signals.now) graph.now.places (slices_view words.now)) }
-    ensures settled { OnOk result (IsSettled most (without_dummies signals.now) graph.now.places settled.new (markings.before_close (drop 1 (slices_view words.now)))) }
+    requires settled { IsSettled most (without_dummies signals.now) graph.now.places settled.old
+        (markings.before_close (drop 1 (slices_view words.now))) }
+    ensures bad { IfOk result
+        (λ is_bad. is_bad
+        ≡ markings.is_bad_marking most (without_dummies signals.now) graph.now.places
+        (slices_view words.now)) }
+    ensures settled { OnOk result
+        (IsSettled most (without_dummies signals.now) graph.now.places settled.new
+        (markings.before_close (drop 1 (slices_view words.now)))) }
 {
     if words.is_empty() {
         return Ok(false);
@@ -168,9 +174,15 @@ impl<'a> Marking<'a> {
         settled: &mut MarkingCheck<'a>,
     ) -> Result<bool, NoMemory>
         requires small { length signals.now < 2 ^ 32 }
-        requires settled { IsSettled most (without_dummies signals.now) graph.now.places settled.old (markings.before_close (drop 1 self.now)) }
-        ensures bad { IfOk result (λ is_bad. is_bad ≡ markings.is_bad_marking most (without_dummies signals.now) graph.now.places self.now) }
-        ensures settled { OnOk result (IsSettled most (without_dummies signals.now) graph.now.places settled.new (markings.before_close (drop 1 self.now))) }
+        requires settled { IsSettled most (without_dummies signals.now) graph.now.places settled.old
+            (markings.before_close (drop 1 self.now)) }
+        ensures bad { IfOk result
+            (λ is_bad. is_bad
+            ≡ markings.is_bad_marking most (without_dummies signals.now) graph.now.places
+            self.now) }
+        ensures settled { OnOk result
+            (IsSettled most (without_dummies signals.now) graph.now.places settled.new
+            (markings.before_close (drop 1 self.now))) }
     {
         is_bad_marking(most, signals, graph, settled, self.words.as_slice())
     }
@@ -182,7 +194,9 @@ impl<'a> Marking<'a> {
         signals: &Signals<'_>,
     ) -> Result<Seq<PlaceTokens<'a>>, NoMemory>
         requires { length signals.now < 2 ^ 32 }
-        ensures { IfOk result (λ place_tokens. place_tokens_views place_tokens ≡ listed.place_tokens_of (without_dummies signals.now) (markings.entries_of self.now)) }
+        ensures { IfOk result
+            (λ place_tokens. place_tokens_views place_tokens
+            ≡ listed.place_tokens_of (without_dummies signals.now) (markings.entries_of self.now)) }
     {
         let entries = entries_of(alloc, entry_words(self.words.as_slice()))?;
         let place_tokens = place_tokens_of(alloc, signals, entries.as_slice())?;

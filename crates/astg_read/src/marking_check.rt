@@ -31,7 +31,11 @@ fn is_bad_place<'a>(
     words: &[&'a [u8]],
 ) -> bool
     requires { length signals.now < 2 ^ 32 }
-    ensures { result ≡ (not (markings.names_one (without_dummies signals.now) graph.now.places (slices_view words.now)) || markings.names_one (without_dummies signals.now) (map place_view named.now.keys) (slices_view words.now)) }
+    ensures { result
+        ≡ (not (markings.names_one (without_dummies signals.now) graph.now.places
+        (slices_view words.now))
+        || markings.names_one (without_dummies signals.now) (map place_view named.now.keys)
+        (slices_view words.now)) }
 {
     match named_place(signals, words) {
         Some(place) => !graph.has_place(&place) || named.contains(&place),
@@ -49,7 +53,9 @@ fn is_bad_entry<'a>(
     entry: &Entry<'_, 'a>,
 ) -> bool
     requires { length signals.now < 2 ^ 32 }
-    ensures { result ≡ markings.is_bad_entry most (without_dummies signals.now) graph.now.places is_closed (map place_view named.now.keys) (entry_view entry.now) }
+    ensures { result
+        ≡ markings.is_bad_entry most (without_dummies signals.now) graph.now.places is_closed
+        (map place_view named.now.keys) (entry_view entry.now) }
 {
     !starts_entry(entry)
         || (is_closed && !is_whole(entry))
@@ -64,7 +70,10 @@ fn add_named<'a>(
     words: &[&'a [u8]],
 ) -> Result<(), NoMemory>
     requires { length signals.now < 2 ^ 32 }
-    ensures { OnOk result (map place_view named.new.keys ≡ markings.with_named (without_dummies signals.now) (map place_view named.old.keys) (slices_view words.now)) }
+    ensures { OnOk result
+        (map place_view named.new.keys
+        ≡ markings.with_named (without_dummies signals.now) (map place_view named.old.keys)
+        (slices_view words.now)) }
 {
     if let Some(place) = named_place(signals, words) {
         named.insert(place)?;
@@ -94,9 +103,15 @@ impl<'a> MarkingCheck<'a> {
         words: &[&'a [u8]],
     ) -> Result<bool, NoMemory>
         requires small { length signals.now < 2 ^ 32 }
-        requires settled { IsSettled most (without_dummies signals.now) graph.now.places self.old (slices_view words.now) }
-        ensures bad { IfOk result (λ is_bad. is_bad ≡ markings.has_bad_entry most (without_dummies signals.now) graph.now.places is_closed [] (entries_after zero (slices_view words.now))) }
-        ensures settled { OnOk result (IsSettled most (without_dummies signals.now) graph.now.places self.new (slices_view words.now)) }
+        requires settled { IsSettled most (without_dummies signals.now) graph.now.places self.old
+            (slices_view words.now) }
+        ensures bad { IfOk result
+            (λ is_bad. is_bad
+            ≡ markings.has_bad_entry most (without_dummies signals.now) graph.now.places is_closed
+            [] (entries_after zero (slices_view words.now))) }
+        ensures settled { OnOk result
+            (IsSettled most (without_dummies signals.now) graph.now.places self.new
+            (slices_view words.now)) }
     {
         while self.words < words.len() {
             let rest = &words[self.words..];

@@ -26,7 +26,9 @@ pub fn place_tokens_of<'a>(
     entries: &[Entry<'_, 'a>],
 ) -> Result<Seq<PlaceTokens<'a>>, NoMemory>
     requires { length signals.now < 2 ^ 32 }
-    ensures { IfOk result (λ place_tokens. place_tokens_views place_tokens ≡ listed.place_tokens_of (without_dummies signals.now) (entry_views entries.now)) }
+    ensures { IfOk result
+        (λ place_tokens. place_tokens_views place_tokens
+        ≡ listed.place_tokens_of (without_dummies signals.now) (entry_views entries.now)) }
 {
     let mut place_tokens = Seq::new(alloc);
     for entry in entries {
@@ -48,7 +50,8 @@ fn same_place(a: &TextPlace<'_>, b: &TextPlace<'_>) -> bool
 
 /// The tokens of a place: those with which it is named first, or none.
 pub fn tokens_for(place_tokens: &[PlaceTokens<'_>], place: &TextPlace<'_>) -> u32
-    ensures { result ≡ listed.tokens_for (place_tokens_views place_tokens.now) (place_view place.now) }
+    ensures { result
+        ≡ listed.tokens_for (place_tokens_views place_tokens.now) (place_view place.now) }
 {
     for one in place_tokens {
         if same_place(place, &one.place) {

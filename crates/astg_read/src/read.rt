@@ -54,7 +54,8 @@ pub fn read_lines<'a>(
     requires short { length text.now ≤ 16777216 }
     requires within { length text.now ≤ limits.now.bytes }
     requires small { limits.now.signals < 2 ^ 32 }
-    ensures gives { Gives (meaning_of (said_of reader.new)) result (reading false limits.now text.now) }
+    ensures gives { Gives (meaning_of (said_of reader.new)) result
+        (reading false limits.now text.now) }
     ensures faultless { OnOk result (IsFaultless limits.now (said_of reader.new)) }
 {
     let mut lines = astg_lex::lines(alloc, text);
@@ -94,8 +95,8 @@ pub fn read_lines<'a>(
     }
 }
 
-/// Reads a text within limits, each at most that of a component; a weight of 1 is within them. It is
-/// refused exactly where it breaks a rule.
+/// Reads a text within limits, each at most that of a component; a weight of 1 is within them. It
+/// is refused exactly where it breaks a rule.
 pub fn read_with(alloc: Global, text: &[u8], limits: &Limits) -> Result<Spec, ReadError>
     requires { AreLimits limits.now }
     ensures value { IfOk result (λ s. StandsFor limits.now text.now s) }

@@ -38,7 +38,9 @@ pub struct Reader<'a> {
 }
 
 fn has_too_many_arcs(graph: &TextGraph<'_>, limits: &Limits) -> bool
-    ensures { result ≡ nat_lt limits.now.arcs (length (arcs graph.now.trans graph.now.places graph.now.text_arcs)) }
+    ensures { result
+        ≡ nat_lt limits.now.arcs
+        (length (arcs graph.now.trans graph.now.places graph.now.text_arcs)) }
 {
     graph.arc_count() > limits.arcs as u64
 }
@@ -70,7 +72,8 @@ impl<'a> Reader<'a> {
     /// Takes a title, which isn't kept.
     fn take_title(&mut self, most: u32, title: &[u8], words: &[Word<'a>]) -> Result<(), LineError>
         requires { (title.now ≡ codes ".model") ⊎ (title.now ≡ codes ".name") }
-        ensures { Says most (said_of self.old) (title.now ∷ texts words.now) result (said_of self.new) }
+        ensures { Says most (said_of self.old) (title.now ∷ texts words.now) result
+            (said_of self.new) }
     {
         if self.has_graph {
             return Err(LineError::Broken(Rule::OutOfOrder));
@@ -80,7 +83,8 @@ impl<'a> Reader<'a> {
 
     /// Takes a line that declares signals of a kind.
     fn take_names(&mut self, most: u32, kind: Kind, names: &[Word<'a>]) -> Result<(), LineError>
-        ensures { Says most (said_of self.old) (directive kind ∷ texts names.now) result (said_of self.new) }
+        ensures { Says most (said_of self.old) (directive kind ∷ texts names.now) result
+            (said_of self.new) }
     {
         if self.has_graph {
             return Err(LineError::Broken(Rule::OutOfOrder));
@@ -96,7 +100,8 @@ impl<'a> Reader<'a> {
 
     /// Takes `.graph`.
     fn take_graph(&mut self, most: u32, words: &[Word<'a>]) -> Result<(), LineError>
-        ensures { Says most (said_of self.old) (codes ".graph" ∷ texts words.now) result (said_of self.new) }
+        ensures { Says most (said_of self.old) (codes ".graph" ∷ texts words.now) result
+            (said_of self.new) }
     {
         if self.has_graph {
             return Err(LineError::Broken(Rule::OutOfOrder));
@@ -117,7 +122,8 @@ impl<'a> Reader<'a> {
     ) -> Result<(), LineError>
         requires few { length self.old.signals < 2 ^ 32 }
         requires nodes { begins_with_dot source.now ≡ false }
-        ensures { Says most (said_of self.old) (source.now ∷ texts words.now) result (said_of self.new) }
+        ensures { Says most (said_of self.old) (source.now ∷ texts words.now) result
+            (said_of self.new) }
     {
         if !self.has_graph || self.marking.is_some() {
             return Err(LineError::Broken(Rule::OutOfOrder));
@@ -143,7 +149,8 @@ impl<'a> Reader<'a> {
     /// Takes `.marking`.
     fn take_marking(&mut self, most: u32, words: &[Word<'a>]) -> Result<(), LineError>
         requires few { length self.old.signals < 2 ^ 32 }
-        ensures { Says most (said_of self.old) (codes ".marking" ∷ texts words.now) result (said_of self.new) }
+        ensures { Says most (said_of self.old) (codes ".marking" ∷ texts words.now) result
+            (said_of self.new) }
     {
         if !self.has_graph || self.marking.is_some() {
             return Err(LineError::Broken(Rule::OutOfOrder));
@@ -161,7 +168,8 @@ impl<'a> Reader<'a> {
     /// Takes `.end`.
     fn take_end(&mut self, most: u32, words: &[Word<'a>]) -> Result<(), LineError>
         requires { is_unfinished (said_of self.old).marking ≡ false }
-        ensures { Says most (said_of self.old) (codes ".end" ∷ texts words.now) result (said_of self.new) }
+        ensures { Says most (said_of self.old) (codes ".end" ∷ texts words.now) result
+            (said_of self.new) }
     {
         if !self.has_graph {
             return Err(LineError::Broken(Rule::NoGraph));
@@ -197,7 +205,8 @@ impl<'a> Reader<'a> {
     /// Takes a line that declares dummies, which may have no names.
     fn take_dummies(&mut self, limits: &Limits, names: &[Word<'a>]) -> Result<(), LineError>
         requires { is_unfinished (said_of self.old).marking ≡ false }
-        ensures { Takes limits.now (said_of self.old) (codes ".dummy" ∷ texts names.now) result (said_of self.new) }
+        ensures { Takes limits.now (said_of self.old) (codes ".dummy" ∷ texts names.now) result
+            (said_of self.new) }
     {
         if self.has_graph {
             return Err(LineError::Broken(Rule::OutOfOrder));
@@ -236,7 +245,8 @@ impl<'a> Reader<'a> {
         requires faultless { IsFaultless limits.now (said_of self.old) }
         requires inside { is_unfinished (said_of self.old).marking ≡ true }
         requires settled { IsSettledIn limits.now.weight self.old }
-        ensures takes { Takes limits.now (said_of self.old) (texts words.now) result (said_of self.new) }
+        ensures takes { Takes limits.now (said_of self.old) (texts words.now) result
+            (said_of self.new) }
         ensures settled { OnOk result (IsSettledIn limits.now.weight self.new) }
     {
         if words.is_empty() {
@@ -264,7 +274,8 @@ impl<'a> Reader<'a> {
     ) -> Result<(), LineError>
         requires small { length self.old.signals < 2 ^ 32 }
         requires outside { is_unfinished (said_of self.old).marking ≡ false }
-        ensures { Takes limits.now (said_of self.old) (first.now ∷ texts rest.now) result (said_of self.new) }
+        ensures { Takes limits.now (said_of self.old) (first.now ∷ texts rest.now) result
+            (said_of self.new) }
     {
         let most = limits.weight;
         match kind_of(first) {
@@ -322,7 +333,8 @@ impl<'a> Reader<'a> {
         requires small { limits.now.signals < 2 ^ 32 }
         requires faultless { IsFaultless limits.now (said_of self.old) }
         requires settled { IsSettledIn limits.now.weight self.old }
-        ensures takes { Takes limits.now (said_of self.old) (texts words.now) result (said_of self.new) }
+        ensures takes { Takes limits.now (said_of self.old) (texts words.now) result
+            (said_of self.new) }
         ensures settled { OnOk result (IsSettledIn limits.now.weight self.new) }
     {
         if self.is_in_marking() {
@@ -345,9 +357,14 @@ fn extend_marking<'a>(
 ) -> Result<(), LineError>
     requires small { length signals.now < 2 ^ 32 }
     requires unfinished { list_any is_closing marking.old ≡ false }
-    requires settled { IsSettled most (without_dummies signals.now) graph.now.places settled.old (before_close (drop 1 marking.old)) }
-    ensures place_tokens { ExtendsMarking (is_bad_marking most (without_dummies signals.now) graph.now.places (marking.old ++ texts words.now)) (marking.old ++ texts words.now) result marking.new }
-    ensures settled { OnOk result (IsSettled most (without_dummies signals.now) graph.now.places settled.new (before_close (drop 1 marking.new))) }
+    requires settled { IsSettled most (without_dummies signals.now) graph.now.places settled.old
+        (before_close (drop 1 marking.old)) }
+    ensures place_tokens { ExtendsMarking
+        (is_bad_marking most (without_dummies signals.now) graph.now.places
+        (marking.old ++ texts words.now)) (marking.old ++ texts words.now) result marking.new }
+    ensures settled { OnOk result
+        (IsSettled most (without_dummies signals.now) graph.now.places settled.new
+        (before_close (drop 1 marking.new))) }
 {
     marking.extend(words)?;
     if marking.is_bad(most, signals, graph, settled)? {

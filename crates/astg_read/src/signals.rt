@@ -64,8 +64,11 @@ impl<'a> Signals<'a> {
 
     /// Adds a signal last, and tells whether its name is new.
     pub fn add(&mut self, name: &'a [u8], kind: Kind) -> Result<bool, NoMemory>
-        ensures fresh { IfOk result (λ is_new. is_new ≡ not (list_any (same_name (record { name = name.now; kind = kind })) self.old)) }
-        ensures ok { OnOk result (self.new ≡ with_new same_name self.old (record { name = name.now; kind = kind })) }
+        ensures fresh { IfOk result
+            (λ is_new. is_new
+            ≡ not (list_any (same_name (record { name = name.now; kind = kind })) self.old)) }
+        ensures ok { OnOk result
+            (self.new ≡ with_new same_name self.old (record { name = name.now; kind = kind })) }
     {
         match self.kinds.get_index_of(name) {
             Some(_) => Ok(false),
@@ -80,7 +83,8 @@ impl<'a> Signals<'a> {
     pub fn add_to(self, builder: &mut NetBuilder) -> Result<(), NoMemory>
         requires differ { has_repeat same_name [] self ≡ false }
         requires none { builder.old.lists.signals ≡ [] }
-        requires room { length builder.old.lists.signals + length self ≤ builder.old.limits.signals }
+        requires room { length builder.old.lists.signals + length self
+            ≤ builder.old.limits.signals }
         ensures { OnOk result (builder.new ≡ with_all_signals builder.old self.entry) }
     {
         let Signals { kinds } = self;
@@ -112,8 +116,12 @@ pub fn add_names<'a>(
     kind: Kind,
     names: &[Word<'a>],
 ) -> Result<bool, NoMemory>
-    ensures fresh { IfOk result (λ all_new. all_new ≡ not (has_repeat same_name signals.old (signals_of kind (texts names.now)))) }
-    ensures ok { IfOk result (λ all_new. IsTrue all_new → signals.new ≡ signals.old ++ signals_of kind (texts names.now)) }
+    ensures fresh { IfOk result
+        (λ all_new. all_new
+        ≡ not (has_repeat same_name signals.old (signals_of kind (texts names.now)))) }
+    ensures ok { IfOk result
+        (λ all_new. IsTrue all_new
+        → signals.new ≡ signals.old ++ signals_of kind (texts names.now)) }
 {
     for name in names {
         if !signals.add(name.text, kind)? {

@@ -84,7 +84,8 @@ pub fn targets_of<'w, 'a>(
 
 /// Whether each target is a node.
 pub fn are_nodes(targets: &[Target<'_, '_>]) -> bool
-    ensures { result ≡ list_all (nodes.is_node (without_dummies [])) (words_in (target_views targets.now)) }
+    ensures { result
+        ≡ list_all (nodes.is_node (without_dummies [])) (words_in (target_views targets.now)) }
 {
     for target in targets {
         if let Some(word) = target.word {
@@ -99,7 +100,9 @@ pub fn are_nodes(targets: &[Target<'_, '_>]) -> bool
 /// Whether a target has the form of a transition but stands for none.
 pub fn have_unknown(signals: &Signals<'_>, targets: &[Target<'_, '_>]) -> bool
     requires { length signals.now < 2 ^ 32 }
-    ensures { result ≡ list_any (nodes.is_unknown (without_dummies signals.now)) (words_in (target_views targets.now)) }
+    ensures { result
+        ≡ list_any (nodes.is_unknown (without_dummies signals.now))
+        (words_in (target_views targets.now)) }
 {
     for target in targets {
         if let Some(word) = target.word {
@@ -114,7 +117,9 @@ pub fn have_unknown(signals: &Signals<'_>, targets: &[Target<'_, '_>]) -> bool
 /// Whether a target is the name of a signal.
 pub fn have_signal(signals: &Signals<'_>, targets: &[Target<'_, '_>]) -> bool
     requires { length signals.now < 2 ^ 32 }
-    ensures { result ≡ list_any (nodes.is_signal (without_dummies signals.now)) (words_in (target_views targets.now)) }
+    ensures { result
+        ≡ list_any (nodes.is_signal (without_dummies signals.now))
+        (words_in (target_views targets.now)) }
 {
     for target in targets {
         if let Some(word) = target.word {

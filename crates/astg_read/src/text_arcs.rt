@@ -29,7 +29,10 @@ pub fn text_arcs_of<'a>(
     targets: &[Target<'_, 'a>],
 ) -> Result<Seq<TextArc<'a>>, NoMemory>
     requires { length signals.now < 2 ^ 32 }
-    ensures { IfOk result (λ text_arcs. text_arc_views text_arcs ≡ filter_map (graphs.text_arc_of (without_dummies signals.now) source.now) (target_views targets.now)) }
+    ensures { IfOk result
+        (λ text_arcs. text_arc_views text_arcs
+        ≡ filter_map (graphs.text_arc_of (without_dummies signals.now) source.now)
+        (target_views targets.now)) }
 {
     let mut text_arcs = Seq::new(alloc);
     for target in targets {

@@ -29,7 +29,8 @@ pub struct Ends<'a> {
 }
 
 /// The graph so far. Contracts see its transitions and places in order of first appearance, and its
-/// text arcs in their order. `arc_total` counts the arcs of the text arcs, and stands still at its last value.
+/// text arcs in their order. `arc_total` counts the arcs of the text arcs, and stands still at its
+/// last value.
 #[derive(Drop)]
 pub struct TextGraph<'a> {
     trans: IndexSet<TransName>,
@@ -46,9 +47,14 @@ impl<'a> Model for TextGraph<'a> {
 
     ghost Value = { GraphLists };
 
-    ghost view = { λ g. record { trans = g.trans.keys; places = map place_view g.places.keys; text_arcs = map weighed_view g.weights.entries } };
+    ghost view = { λ g. record {
+      trans = g.trans.keys;
+      places = map place_view g.places.keys;
+      text_arcs = map weighed_view g.weights.entries;
+    } };
 
-    ghost invariant = { λ g. g.arc_total ≡ min (length (arcs [] [] (map weighed_view g.weights.entries))) 18446744073709551615 };
+    ghost invariant = { λ g. g.arc_total
+        ≡ min (length (arcs [] [] (map weighed_view g.weights.entries))) 18446744073709551615 };
 }
 
 fn arcs_of(text_arc: &TextArc<'_>) -> u64
@@ -104,8 +110,12 @@ impl<'a> TextGraph<'a> {
 
     /// Adds a text arc last, and tells whether its source and target are new together.
     pub fn add_text_arc(&mut self, text_arc: &TextArc<'a>) -> Result<bool, NoMemory>
-        ensures fresh { IfOk result (λ is_new. is_new ≡ not (list_any (same_text_arc (text_arc_view text_arc.now)) self.old.text_arcs)) }
-        ensures ok { IfOk result (λ is_new. IsTrue is_new → self.new ≡ with_text_arcs self.old (text_arc_view text_arc.now ∷ [])) }
+        ensures fresh { IfOk result
+            (λ is_new. is_new
+            ≡ not (list_any (same_text_arc (text_arc_view text_arc.now)) self.old.text_arcs)) }
+        ensures ok { IfOk result
+            (λ is_new. IsTrue is_new
+            → self.new ≡ with_text_arcs self.old (text_arc_view text_arc.now ∷ [])) }
     {
         let ends = Ends {
             source: text_arc.source,
@@ -138,7 +148,8 @@ impl<'a> TextGraph<'a> {
 
     /// Adds the place between two transitions, where both are such.
     fn add_between(&mut self, source: &Node<'a>, target: &Node<'a>) -> Result<(), NoMemory>
-        ensures { OnOk result (self.new ≡ with_between self.old (node_view source.now) (node_view target.now)) }
+        ensures { OnOk result
+            (self.new ≡ with_between self.old (node_view source.now) (node_view target.now)) }
     {
         if let (Node::Trans(from), Node::Trans(to)) = (source, target) {
             self.places.insert(TextPlace::Between(*from, *to))?;

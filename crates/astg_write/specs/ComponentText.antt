@@ -25,11 +25,13 @@ of_kind kind s = is_kind kind s.kind
 -- the names of the signals of that kind, each after a space
 abbrev pub spaced_names : Kind → List Signal → List ℕ
 spaced_names kind [] = []
-spaced_names kind (s ∷ ss) = if of_kind kind s then codes " " ++ s.name ++ spaced_names kind ss else spaced_names kind ss
+spaced_names kind (s ∷ ss) =
+    if of_kind kind s then codes " " ++ s.name ++ spaced_names kind ss else spaced_names kind ss
 
 -- the line that declares the signals of that kind; none where there are none
 abbrev pub names_line : List ℕ → Kind → List Signal → List ℕ
-names_line directive kind signals = if list_any (of_kind kind) signals then line (directive ++ spaced_names kind signals) else []
+names_line directive kind signals =
+    if list_any (of_kind kind) signals then line (directive ++ spaced_names kind signals) else []
 
 -- a weight above 1, as it stands after a target
 abbrev pub weight_group : ℕ → List ℕ
@@ -50,7 +52,11 @@ goes_out_of p a = not a.into && (a.place == p)
 -- the places to which the transition gives, each after a space and with its weight
 abbrev pub given_text : List ℕ → ℕ → List NetArc → List ℕ
 given_text prefix t [] = []
-given_text prefix t (a ∷ arcs) = if comes_from t a then codes " " ++ numbered_name prefix a.place ++ weight_group a.weight ++ given_text prefix t arcs else given_text prefix t arcs
+given_text prefix t (a ∷ arcs) =
+    if comes_from t a
+    then codes " " ++ numbered_name prefix a.place ++ weight_group a.weight
+    ++ given_text prefix t arcs
+    else given_text prefix t arcs
 
 -- the line of the transition: its text, and the places to which it gives
 abbrev pub trans_line : List ℕ → NetLists → ℕ → List ℕ
@@ -59,7 +65,11 @@ trans_line prefix n t = line (trans_word n.signals n.trans t ++ given_text prefi
 -- the transitions that take from the place, each after a space and with its weight
 abbrev pub takers_of : NetLists → ℕ → List NetArc → List ℕ
 takers_of n p [] = []
-takers_of n p (a ∷ arcs) = if goes_out_of p a then codes " " ++ trans_word n.signals n.trans a.trans ++ weight_group a.weight ++ takers_of n p arcs else takers_of n p arcs
+takers_of n p (a ∷ arcs) =
+    if goes_out_of p a
+    then codes " " ++ trans_word n.signals n.trans a.trans ++ weight_group a.weight
+    ++ takers_of n p arcs
+    else takers_of n p arcs
 
 -- whether something gives to the place and nothing takes from it
 abbrev pub is_only_given : List NetArc → ℕ → Bool
@@ -67,7 +77,8 @@ is_only_given arcs p = list_any (goes_into p) arcs && not (list_any (goes_out_of
 
 -- the line of the place; none where something gives to it and nothing takes from it
 abbrev pub place_line : List ℕ → NetLists → ℕ → List ℕ
-place_line prefix n p = if is_only_given n.arcs p then [] else line (numbered_name prefix p ++ takers_of n p n.arcs)
+place_line prefix n p =
+    if is_only_given n.arcs p then [] else line (numbered_name prefix p ++ takers_of n p n.arcs)
 
 -- a number of tokens above 1, as it stands after a place
 abbrev pub tokens_group : ℕ → List ℕ
@@ -75,23 +86,31 @@ tokens_group k = if nat_le k 1 then [] else codes "=" ++ decimal k
 
 -- the entry of the place after a space; none where it has no tokens
 abbrev pub entry : List ℕ → List ℕ → ℕ → List ℕ
-entry prefix tokens p = if slice_index tokens p == 0 then [] else codes " " ++ numbered_name prefix p ++ tokens_group (slice_index tokens p)
+entry prefix tokens p =
+    if slice_index tokens p == 0 then []
+    else codes " " ++ numbered_name prefix p ++ tokens_group (slice_index tokens p)
 
 -- the line of the marking: the entries in the order of the places
 abbrev pub marking_line : List ℕ → List ℕ → List ℕ
-marking_line prefix tokens = line (codes ".marking {" ++ listed_below (entry prefix tokens) (length tokens) ++ codes " }")
+marking_line prefix tokens =
+    line (codes ".marking {" ++ listed_below (entry prefix tokens) (length tokens) ++ codes " }")
 
 -- the lines that declare the signals
 abbrev pub header : List Signal → List ℕ
-header signals = names_line (codes ".inputs") Input signals ++ names_line (codes ".outputs") Output signals ++ names_line (codes ".internal") Internal signals
+header signals =
+    names_line (codes ".inputs") Input signals ++ names_line (codes ".outputs") Output signals
+    ++ names_line (codes ".internal") Internal signals
 
 -- the lines of the transitions and of the places
 abbrev pub graph_lines : List ℕ → NetLists → List ℕ
-graph_lines prefix n = line (codes ".graph") ++ listed_below (trans_line prefix n) (length n.trans) ++ listed_below (place_line prefix n) (length n.tokens)
+graph_lines prefix n =
+    line (codes ".graph") ++ listed_below (trans_line prefix n) (length n.trans)
+    ++ listed_below (place_line prefix n) (length n.tokens)
 
 -- all lines but the first
 abbrev pub net_lines : List ℕ → NetLists → List ℕ
-net_lines prefix n = header n.signals ++ graph_lines prefix n ++ marking_line prefix n.tokens ++ line (codes ".end")
+net_lines prefix n =
+    header n.signals ++ graph_lines prefix n ++ marking_line prefix n.tokens ++ line (codes ".end")
 
 -- the text of the net as the component of that number
 unfoldable pub component_text : NetLists → ℕ → List ℕ

@@ -17,7 +17,8 @@ is_free signals prefix = not (list_any (begins_with prefix) signals)
 
 -- the number of the first free prefix; n signals leave one of the first n + 2 free
 abbrev pub prefix_number : List Signal → ℕ
-prefix_number signals = position_or_len (λ k. is_free signals (prefix_text k)) (range_with_len 0 (length signals + 2))
+prefix_number signals =
+    position_or_len (λ k. is_free signals (prefix_text k)) (range_with_len 0 (length signals + 2))
 
 -- the first free prefix
 abbrev pub place_prefix : List Signal → List ℕ

@@ -6,7 +6,8 @@ use Rattle.stg_net.specs.Spec.{SpecLists}
 use Rattle.astg_read.specs.Reading.{Meaning, reading, IsSpecOf}
 use Rattle.astg_write.specs.ComponentText.{component_text}
 
--- The text stands for something, some specification is that of the text, and each such one has this very net.
+-- The text stands for something, some specification is that of the
+-- text, and each such one has this very net.
 pub record ReadsBack (n : NetLists) (text : List ℕ) : Type 0 where
   pub meaning : Meaning
   pub stands : reading false PART text ≡ Ok meaning
@@ -16,4 +17,6 @@ pub record ReadsBack (n : NetLists) (text : List ℕ) : Type 0 where
 
 -- each net is read back from its text, whose number is its place in the list, counted from 1
 abbrev pub AreReadBack : List NetLists → Type 0
-AreReadBack nets = (k : ℕ) (none : NetLists) → k < length nets → ReadsBack (slice_index_or nets k none) (component_text (slice_index_or nets k none) (k + 1))
+AreReadBack nets =
+    (k : ℕ) (none : NetLists) → k < length nets
+    → ReadsBack (slice_index_or nets k none) (component_text (slice_index_or nets k none) (k + 1))

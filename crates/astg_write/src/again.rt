@@ -11,8 +11,8 @@ use astg_read::{ReadError, read_part};
 use std::alloc::Global;
 use stg_net::Net;
 
-/// Writes the net as the component of that number, and reads it again. Where the net is in order the
-/// same net comes, or want of memory. A net in another order may be refused, or come in order.
+/// Writes the net as the component of that number, and reads it again. Where the net is in order
+/// the same net comes, or want of memory. A net in another order may be refused, or come in order.
 #[tactic(auto, using(crate::proofs::ReadAgain::net_read_back, crate::proofs::ReadAgain::never_unread))]
 pub fn read_again(alloc: Global, net: &Net, part: u32) -> Result<Net, ReadError>
     requires writable { IsWritable net.now }

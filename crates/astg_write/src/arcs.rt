@@ -22,7 +22,8 @@ fn arcs_between(arcs: &[NetArc], from: usize, to: usize) -> &[NetArc]
 fn arcs_below(arcs: &[NetArc], place: u32) -> usize
     requires { AllPairs IsBefore arcs.now }
     ensures bound { result ≤ length arcs.now }
-    ensures point { IsPartitionPoint (λ (a : NetArc). a.place < place) (λ (a : NetArc). place ≤ a.place) arcs.now result }
+    ensures point { IsPartitionPoint
+        (λ (a : NetArc). a.place < place) (λ (a : NetArc). place ≤ a.place) arcs.now result }
 {
     arcs.partition_point(|a| a.place < place)
 }
@@ -43,8 +44,11 @@ pub(crate) fn arcs_of_place(net: &Net, place: u32) -> &[NetArc]
 /// The arcs of a net by their transitions; those of one transition keep their order.
 pub(crate) fn arcs_by_trans(alloc: Global, net: &Net) -> Result<Vec<NetArc>, NoMemory>
     ensures rise { IfOk result (λ arcs. IsNonDecreasingBy (λ (a : NetArc). a.trans) arcs.items) }
-    ensures given { IfOk result (λ arcs. (prefix : List ℕ) (t : ℕ) → given_text prefix t arcs.items ≡ given_text prefix t net.now.arcs) }
-    ensures there { IfOk result (λ arcs. All (λ (a : NetArc). a.place < length net.now.tokens) arcs.items) }
+    ensures given { IfOk result
+        (λ arcs. (prefix : List ℕ) (t : ℕ)
+        → given_text prefix t arcs.items ≡ given_text prefix t net.now.arcs) }
+    ensures there { IfOk result
+        (λ arcs. All (λ (a : NetArc). a.place < length net.now.tokens) arcs.items) }
 {
     let mut arcs = Vec::from_slice(alloc, net.arcs())?;
     arcs.sort_by_key(|a| a.trans)?;
@@ -55,7 +59,8 @@ pub(crate) fn arcs_by_trans(alloc: Global, net: &Net) -> Result<Vec<NetArc>, NoM
 fn arcs_before(arcs: &[NetArc], trans: u32) -> usize
     requires { IsNonDecreasingBy (λ (a : NetArc). a.trans) arcs.now }
     ensures bound { result ≤ length arcs.now }
-    ensures point { IsPartitionPoint (λ (a : NetArc). a.trans < trans) (λ (a : NetArc). trans ≤ a.trans) arcs.now result }
+    ensures point { IsPartitionPoint
+        (λ (a : NetArc). a.trans < trans) (λ (a : NetArc). trans ≤ a.trans) arcs.now result }
 {
     arcs.partition_point(|a| a.trans < trans)
 }
@@ -64,8 +69,10 @@ fn arcs_before(arcs: &[NetArc], trans: u32) -> usize
 pub(crate) fn arcs_of_trans(arcs: &[NetArc], trans: u32) -> &[NetArc]
     requires rise { IsNonDecreasingBy (λ (a : NetArc). a.trans) arcs.now }
     requires number { trans + 1 < 2 ^ 32 }
-    ensures given { (prefix : List ℕ) → given_text prefix trans result.now ≡ given_text prefix trans arcs.now }
-    ensures there { (places : ℕ) → All (λ (a : NetArc). a.place < places) arcs.now → All (λ (a : NetArc). a.place < places) result.now }
+    ensures given { (prefix : List ℕ)
+        → given_text prefix trans result.now ≡ given_text prefix trans arcs.now }
+    ensures there { (places : ℕ) → All (λ (a : NetArc). a.place < places) arcs.now
+        → All (λ (a : NetArc). a.place < places) result.now }
 {
     let from = arcs_before(arcs, trans);
     let to = arcs_before(arcs, trans + 1);

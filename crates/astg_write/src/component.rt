@@ -25,13 +25,15 @@ fn push_lines(alloc: Global, text: &mut Text, prefix: &[u8], net: &Net) -> Resul
     text.extend_from_slice(b".end\n")
 }
 
-/// Writes the net as the component of that number. Where the net is in order, `read_part` gives it back.
+/// Writes the net as the component of that number. Where the net is
+/// in order, `read_part` gives it back.
 ///
 /// The names are asked to have their form so that the text can be read again.
 pub fn write_net(alloc: Global, net: &Net, part: u32) -> Result<Text, NoMemory>
     requires { IsWritable net.now }
     ensures value { IfOk result (λ text. text ≡ component_text net.now part) }
-    ensures reads_back { IfOk result (λ text. (whole : NetLists) → net.now ≡ ordered whole → ReadsBack net.now text) }
+    ensures reads_back { IfOk result
+        (λ text. (whole : NetLists) → net.now ≡ ordered whole → ReadsBack net.now text) }
 {
     let prefix = find_prefix(alloc, net.signals())?;
     let mut text = make_model_line(alloc, part)?;

@@ -151,7 +151,9 @@ fn push_trans_lines(
 ) -> Result<(), NoMemory>
     requires places { length net.now.tokens < 2 ^ 32 }
     requires trans { length net.now.trans < 2 ^ 32 }
-    ensures { OnOk result (text.new ≡ text.old ++ listed_below (trans_line prefix.now net.now) (length net.now.trans)) }
+    ensures { OnOk result
+        (text.new ≡ text.old
+        ++ listed_below (trans_line prefix.now net.now) (length net.now.trans)) }
 {
     let arcs = arcs_by_trans(alloc, net)?;
     for trans in 0..net.trans().len() as u32 {
@@ -167,7 +169,9 @@ fn push_place_lines(
     net: &Net,
 ) -> Result<(), NoMemory>
     requires { length net.now.tokens < 2 ^ 32 }
-    ensures { OnOk result (text.new ≡ text.old ++ listed_below (place_line prefix.now net.now) (length net.now.tokens)) }
+    ensures { OnOk result
+        (text.new ≡ text.old
+        ++ listed_below (place_line prefix.now net.now) (length net.now.tokens)) }
 {
     for place in 0..net.tokens().len() as u32 {
         push_place_line(alloc, text, prefix, net, place)?;

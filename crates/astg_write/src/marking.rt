@@ -34,7 +34,8 @@ fn push_entry(text: &mut Text, prefix: &[u8], tokens: &[u32], place: u32) -> Res
 
 fn push_entries(text: &mut Text, prefix: &[u8], tokens: &[u32]) -> Result<(), NoMemory>
     requires { length tokens.now < 2 ^ 32 }
-    ensures { OnOk result (text.new ≡ text.old ++ listed_below (entry prefix.now tokens.now) (length tokens.now)) }
+    ensures { OnOk result
+        (text.new ≡ text.old ++ listed_below (entry prefix.now tokens.now) (length tokens.now)) }
 {
     for place in 0..tokens.len() as u32 {
         push_entry(text, prefix, tokens, place)?;

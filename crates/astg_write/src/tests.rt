@@ -72,7 +72,8 @@ fn add_c_trans(net: &mut NetBuilder) -> Result<(), BuildError>
     requires first { net.old.lists.trans ≡ [] }
     ensures signals { OnOk result (net.new.lists.signals ≡ net.old.lists.signals) }
     ensures count { OnOk result (length net.new.lists.trans ≡ 6) }
-    ensures indices { OnOk result (All (λ (t : TransName). t.index < 1000000000) net.new.lists.trans) }
+    ensures indices { OnOk result
+        (All (λ (t : TransName). t.index < 1000000000) net.new.lists.trans) }
     ensures limits { OnOk result (net.new.limits ≡ Limits.PART) }
 {
     net.add_trans(of(0, Edge::Rise))?;

@@ -14,11 +14,12 @@ use Rattle.stg_contract.specs.Calm.{IsCalm}
 abbrev pub VerdictIsOne : Type 0
 VerdictIsOne = (g : Graph) (t : ℕ) (v w : Verdict) → IsVerdict g t v → IsVerdict g t w → v ≡ w
 
--- the initial component of a net within the limits of a component is calm, where the net has no structural
--- auto-conflict
+-- the initial component of a net within the limits of a component is calm, where the net has no
+-- structural auto-conflict
 abbrev pub InitialIsCalm : Type 0
 InitialIsCalm = (n : NetLists) (known : List ℕ) → IsNet n → IsWithin PART n
-    → All (λ s. s < length n.signals) known → HasNoAutoConflict (graph_of n) → IsCalm (initial n known)
+    → All (λ s. s < length n.signals) known → HasNoAutoConflict (graph_of n)
+    → IsCalm (initial n known)
 
 -- a contraction that the verdict allows leaves a calm graph
 abbrev pub ContractionIsCalm : Type 0

@@ -1,4 +1,5 @@
--- The verdict on a dummy: the first reason against its contraction, or the type by which it is secure.
+-- The verdict on a dummy: the first reason against its
+-- contraction, or the type by which it is secure.
 use Rattle.std.specs.Prelude.{◌≡◌, ◌<◌, ◌≤◌, ◌+◌, ◌-◌, ◌*◌, ◌^◌, ◌⊎◌, ℕ, length, min}
 use Rattle.stg_net.specs.declared.limits.TheConstants.Limits.{PART}
 use Rattle.stg_net.specs.Graph.{Graph, tokens_at, takes, gives}
@@ -50,15 +51,16 @@ pub record HasSecureContraction (g : Graph) (t : ℕ) : Type 0 where
   pub pure_ordinary : IsPureOrdinary g t
   pub secure : IsSecure g t
 
--- besides, the contracted graph has no structural auto-conflict, few places, and no number past the limits
+-- besides, the contracted graph has no structural auto-conflict, few
+-- places, and no number past the limits
 pub record IsContractible (g : Graph) (t : ℕ) : Type 0 where
   pub contraction : HasSecureContraction g t
   pub no_conflict : HasNoAutoConflict (contracted g t)
   pub few_places : count_places (contracted g t) ≤ most_places g
   pub within : IsWithinLimits (contracted g t)
 
--- the contraction is secure and leaves no structural auto-conflict, but n places would be live, which are
--- too many; n stands still at the last number of 32 bits
+-- the contraction is secure and leaves no structural auto-conflict, but n places would be live,
+-- which are too many; n stands still at the last number of 32 bits
 pub record HasTooManyPlaces (g : Graph) (t n : ℕ) : Type 0 where
   pub contraction : HasSecureContraction g t
   pub no_conflict : HasNoAutoConflict (contracted g t)

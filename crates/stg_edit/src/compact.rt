@@ -101,7 +101,8 @@ pub fn list_names(
     ensures names { IfOk result
         (λ list. map (λ x. Some (full_name_in signals.now x)) list
         ≡ map (full_name_at editor.now.now) trans.now) }
-    ensures there { IfOk result (λ list. All (λ (x : ThisName). x.signal < length signals.now) list) }
+    ensures there { IfOk result
+        (λ list. All (λ (x : ThisName). x.signal < length signals.now) list) }
 {
     let mut list = Seq::new(alloc);
     for t in trans {

@@ -18,7 +18,8 @@ pub record IsClash (g : Graph) (t u p : ℕ) : Type 0 where
   pub conflict : IsAutoConflict g t u p
   pub ascends : t < u
 
--- so are they, and no clash is lesser: by the first transition, then by the second, then by the place
+-- so are they, and no clash is lesser: by the first transition,
+-- then by the second, then by the place
 pub record IsLeastClash (g : Graph) (t u p : ℕ) : Type 0 where
   pub clash : IsClash g t u p
   pub least : (v w q : ℕ) → IsClash g v w q

@@ -10,7 +10,8 @@ use Rattle.stg_laws.specs.Cuts.{cut}
 abbrev pub edges_of : Graph → List ℕ → List ℕ → List Edge
 edges_of g signal run = map (λ (name : FullName). name.edge) (cut g (signal ∷ []) run)
 
--- No edge stands beside itself, and no toggle beside a toggle. So the proof of `law_consistent` doesn't use its premise `HasNoToggle`.
+-- No edge stands beside itself, and no toggle beside a toggle. So the proof of `law_consistent`
+-- doesn't use its premise `HasNoToggle`.
 abbrev pub Alternates : List Edge → Type 0
 Alternates [] = ⊤
 Alternates (e ∷ []) = ⊤

@@ -1,4 +1,5 @@
--- Clean and deterministic graphs. The form of determinism is this project's own: it forbids any two enabled transitions of one label, whatever markings they lead to.
+-- Clean and deterministic graphs. The form of determinism is this project's own: it forbids any two
+-- enabled transitions of one label, whatever markings they lead to.
 use Rattle.std.specs.Prelude.{◌≡◌, ◌≢◌, ℕ, List, Some}
 use Rattle.stg_net.specs.Graph.{Graph, FullName, full_name_at, IsKnown, IsDummy}
 use Rattle.stg_net.specs.Run.{IsRun, IsEnabled, reached}
@@ -17,7 +18,9 @@ pub record AreRivals (g : Graph) (t u : ℕ) : Type 0 where
 
 -- after no run are two different known transitions of one label enabled
 abbrev pub IsClean : Graph → Type 0
-IsClean g = (run : List ℕ) (t u : ℕ) → IsRun g run → AreRivals g t u → IsEnabled g (reached g run) t → ¬ IsEnabled g (reached g run) u
+IsClean g =
+    (run : List ℕ) (t u : ℕ) → IsRun g run → AreRivals g t u → IsEnabled g (reached g run) t
+    → ¬ IsEnabled g (reached g run) u
 
 -- the signal of each live transition is known
 abbrev pub HasNoDummy : Graph → Type 0

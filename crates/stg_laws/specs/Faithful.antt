@@ -15,10 +15,14 @@ pub record CanFire (g : Graph) (run : List ℕ) (name : FullName) : Type 0 where
   pub has : full_name_at g trans ≡ Some name
   pub enabled : IsEnabled g (reached g run) trans
 
--- where a transition of a signal that x drives is enabled in x after the cut of a run of the specification, the one of that full name is enabled in the specification after the run
+-- where a transition of a signal that x drives is enabled in x after the cut of a run of the
+-- specification, the one of that full name is enabled in the specification after the run
 abbrev pub OwnTransitionsAgree : Graph → Stg → Type 0
-OwnTransitionsAgree spec x = (run part_run : List ℕ) (t : ℕ) (name : FullName) → IsRun spec run → IsRun x.graph part_run → names_of x.graph part_run ≡ cut spec x.graph.known run
-    → full_name_at x.graph t ≡ Some name → Drives x name.signal → IsEnabled x.graph (reached x.graph part_run) t → CanFire spec run name
+OwnTransitionsAgree spec x =
+    (run part_run : List ℕ) (t : ℕ) (name : FullName) → IsRun spec run → IsRun x.graph part_run
+    → names_of x.graph part_run ≡ cut spec x.graph.known run
+    → full_name_at x.graph t ≡ Some name → Drives x name.signal
+    → IsEnabled x.graph (reached x.graph part_run) t → CanFire spec run name
 
 -- the component x does what the specification does, as far as its signals show it
 pub record IsFaithful (spec : Graph) (x : Stg) : Type 0 where
@@ -27,16 +31,20 @@ pub record IsFaithful (spec : Graph) (x : Stg) : Type 0 where
   -- the cut of each run of the specification to the signals of x is a run of x
   pub follows : (run : List ℕ) → IsRun spec run → IsNamedRun x.graph (cut spec x.graph.known run)
   -- each run of x is the cut of a run of the specification
-  pub comes_from : (run : List ℕ) → IsRun x.graph run → IsCutOfRun spec x.graph.known (names_of x.graph run)
+  pub comes_from : (run : List ℕ) → IsRun x.graph run
+      → IsCutOfRun spec x.graph.known (names_of x.graph run)
   -- so both have the same name lists and the same traces on the signals of x
-  pub names : (names : List FullName) → IsNameList x.graph names ↔ IsCutOfRun spec x.graph.known names
-  pub traces : (labels : List Label) → IsTrace x.graph labels ↔ IsTraceOfRun spec x.graph.known labels
+  pub names : (names : List FullName)
+      → IsNameList x.graph names ↔ IsCutOfRun spec x.graph.known names
+  pub traces : (labels : List Label)
+      → IsTrace x.graph labels ↔ IsTraceOfRun spec x.graph.known labels
   -- x is deterministic where the specification is
   pub deterministic : IsDeterministic spec → IsDeterministic x.graph
   -- x enables nothing of the signals that it drives that the specification doesn't
   pub own_agree : OwnTransitionsAgree spec x
 
--- The nets share out what the specification drives, and each is faithful to it. Where the specification is deterministic, they are a correct decomposition of it.
+-- The nets share out what the specification drives, and each is faithful to it. Where the
+-- specification is deterministic, they are a correct decomposition of it.
 pub record AreComponents (spec : NetLists) (nets : List NetLists) : Type 0 where
   pub are_nets : All IsNet nets
   pub wired : AreWired (stg_of spec) (map stg_of nets)

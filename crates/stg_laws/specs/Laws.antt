@@ -22,10 +22,14 @@ use Rattle.stg_laws.specs.RedundantPlaces.{IsStructurallyRedundant, IsRedundantP
 use Rattle.stg_laws.specs.RedundantDummies.{IsRedundantDummy}
 use Rattle.stg_laws.specs.LeaveOut.{leave_out, ComesFrom}
 
--- components that are wired and faithful are a correct decomposition of a deterministic specification
+-- components that are wired and faithful are a correct
+-- decomposition of a deterministic specification
 abbrev pub FaithfulPartsAreCorrect : Type 0
-FaithfulPartsAreCorrect = (spec : Stg) (components : List Stg) → IsDeterministic spec.graph → AreWired spec components
-    → ((i : ℕ) → i < length components → IsStg (stg_at components i)) → ((i : ℕ) → i < length components → IsFaithful spec.graph (stg_at components i)) → IsCorrect spec components
+FaithfulPartsAreCorrect =
+    (spec : Stg) (components : List Stg) → IsDeterministic spec.graph → AreWired spec components
+    → ((i : ℕ) → i < length components → IsStg (stg_at components i))
+    → ((i : ℕ) → i < length components → IsFaithful spec.graph (stg_at components i))
+    → IsCorrect spec components
 
 -- both drive the same signals, and keep the same ones inside
 pub record DriveTheSame (x y : Stg) : Type 0 where
@@ -40,9 +44,12 @@ OrderRenumbers = (n : NetLists) → IsNet n → IsRenumbered (graph_of n) (graph
 abbrev pub OrderDrivesTheSame : Type 0
 OrderDrivesTheSame = (n : NetLists) → IsNet n → DriveTheSame (stg_of n) (stg_of (ordered n))
 
--- what a place holds from which an own transition of a closed group takes is a function of the run's cut
+-- what a place holds from which an own transition of a closed
+-- group takes is a function of the run's cut
 abbrev pub CutTellsInputs : Type 0
-CutTellsInputs = (g : Graph) (own signals : List (List ℕ)) (t p : ℕ) (v w : List ℕ) → HasDistinctNames g → IsClosed g own signals → IsTrue (has_signal_of own (full_name_at g t)) → 0 < takes g t p
+CutTellsInputs =
+    (g : Graph) (own signals : List (List ℕ)) (t p : ℕ) (v w : List ℕ) → HasDistinctNames g
+    → IsClosed g own signals → IsTrue (has_signal_of own (full_name_at g t)) → 0 < takes g t p
     → IsRun g v → IsRun g w → cut g signals v ≡ cut g signals w → reached g v p ≡ reached g w p
 
 -- what signals of a net have to know closes them
@@ -52,19 +59,24 @@ KnownCloses = (n : NetLists) (own : List ℕ) → IsNet n → All (λ s. s < len
 
 -- a net has one list of plain groups
 abbrev pub HasOneGrouping : Type 0
-HasOneGrouping = (n : NetLists) (groups others : List Group) → ArePlainGroups n groups → ArePlainGroups n others
+HasOneGrouping =
+    (n : NetLists) (groups others : List Group) → ArePlainGroups n groups → ArePlainGroups n others
     → groups ≡ others
 
--- a graph without dummies, toggles and structural auto-conflicts, in each of whose runs the edges of each signal alternate, is deterministic
+-- a graph without dummies, toggles and structural auto-conflicts, in each of whose runs the edges
+-- of each signal alternate, is deterministic
 abbrev pub ConsistencyDetermines : Type 0
-ConsistencyDetermines = (g : Graph) → HasNoDummy g → HasNoToggle g → HasNoAutoConflict g → IsConsistent g → IsDeterministic g
+ConsistencyDetermines =
+    (g : Graph) → HasNoDummy g → HasNoToggle g → HasNoAutoConflict g → IsConsistent g
+    → IsDeterministic g
 
 -- what is left of a run without the contracted transition is a run of the contracted graph
 abbrev pub ContractionFollows : Type 0
 ContractionFollows = (g : Graph) (t : ℕ) (run : List ℕ) → IsPureOrdinary g t → IsRun g run
     → IsRun (contracted g t) (leave_out t run)
 
--- a secure contraction adds no run: each run of the contracted graph comes from a run of the graph before
+-- a secure contraction adds no run: each run of the contracted
+-- graph comes from a run of the graph before
 abbrev pub ContractionAddsNoRun : Type 0
 ContractionAddsNoRun = (g : Graph) (t : ℕ) (run : List ℕ) → IsTrans g t → IsPureOrdinary g t
     → IsSecure g t → IsRun (contracted g t) run → ComesFrom g t run

@@ -6,8 +6,8 @@ use Rattle.stg_net.specs.Graph.{Graph, IsPlace, tokens_at, takes, gives}
 abbrev pub valued_sum : (ℕ → ℕ) → (ℕ → ℕ) → List ℕ → ℕ
 valued_sum value number places = sum_by (λ q. value q * number q) places
 
--- Berthelot's condition (G. Berthelot, Transformations and Decompositions of Nets, 1987): counted by
--- values, p always holds what some other places hold, and a surplus
+-- Berthelot's condition (G. Berthelot, Transformations and Decompositions of Nets, 1987): counted
+-- by values, p always holds what some other places hold, and a surplus
 pub record IsStructurallyRedundant (g : Graph) (p : ℕ) : Type 0 where
   pub others : List ℕ
   pub apart : All (λ q. q ≢ p) others
@@ -50,7 +50,8 @@ abbrev pub IsChain : Graph → ℕ → ℕ → List ℕ → Type 0
 IsChain g a b [] = a ≡ b
 IsChain g a b (p ∷ chain) = (c : ℕ) × IsLink g a c p × IsChain g c b chain
 
--- p leads from a transition to another one, and so does a chain of other places with at most its tokens
+-- p leads from a transition to another one, and so does a chain
+-- of other places with at most its tokens
 pub record IsShortcut (g : Graph) (p : ℕ) : Type 0 where
   pub giver : ℕ
   pub taker : ℕ

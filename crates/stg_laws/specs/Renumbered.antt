@@ -2,7 +2,8 @@
 use Rattle.std.specs.Prelude.{◌≡◌, ℕ, List}
 use Rattle.stg_net.specs.Graph.{Graph, is_among, IsPlace, IsTrans, full_name_at, tokens_at, takes, gives}
 
--- h has exactly the live places and transitions of g: place and trans tell which number each has in g
+-- h has exactly the live places and transitions of g: place and
+-- trans tell which number each has in g
 pub record IsRenumbered (g h : Graph) : Type 0 where
   pub place : ℕ → ℕ
   pub trans : ℕ → ℕ

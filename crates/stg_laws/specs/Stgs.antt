@@ -21,11 +21,17 @@ is_driven Internal = true
 
 -- the names of the signals whose kind passes the test
 abbrev pub names_where : (Kind → Bool) → List Signal → List (List ℕ)
-names_where test signals = map (λ (s : Signal). s.name) (filter (λ (s : Signal). test s.kind) signals)
+names_where test signals =
+    map (λ (s : Signal). s.name) (filter (λ (s : Signal). test s.kind) signals)
 
 -- what a net stands for
 abbrev pub stg_of : NetLists → Stg
-stg_of n = record { graph = graph_of n; driven = names_where is_driven n.signals; internals = names_where (is_kind Internal) n.signals }
+stg_of n =
+    record {
+      graph = graph_of n;
+      driven = names_where is_driven n.signals;
+      internals = names_where (is_kind Internal) n.signals;
+    }
 
 -- it knows the signal
 abbrev pub Knows : Stg → List ℕ → Type 0
@@ -46,7 +52,9 @@ pub record IsInput (x : Stg) (signal : List ℕ) : Type 0 where
 
 -- full names tell the transitions apart
 abbrev pub HasDistinctNames : Graph → Type 0
-HasDistinctNames g = (t u : ℕ) (name : FullName) → full_name_at g t ≡ Some name → full_name_at g u ≡ Some name → t ≡ u
+HasDistinctNames g =
+    (t u : ℕ) (name : FullName) → full_name_at g t ≡ Some name → full_name_at g u ≡ Some name
+    → t ≡ u
 
 -- full names tell its transitions apart, and it knows what it drives
 pub record IsStg (x : Stg) : Type 0 where
@@ -55,7 +63,12 @@ pub record IsStg (x : Stg) : Type 0 where
 
 -- an STG without anything, which stands at no number
 abbrev pub no_stg : Stg
-no_stg = record { graph = record { places = []; trans = []; known = []; first_places = 0 }; driven = []; internals = [] }
+no_stg =
+    record {
+      graph = record { places = []; trans = []; known = []; first_places = 0 };
+      driven = [];
+      internals = [];
+    }
 
 -- the component of that number
 abbrev pub stg_at : List Stg → ℕ → Stg

@@ -44,14 +44,16 @@ pub fn law_follows()
     ensures { ContractionFollows }
 {}
 
-/// The secure contraction of such a transition adds no run, and that of a dummy keeps the name lists.
+/// The secure contraction of such a transition adds no run, and
+/// that of a dummy keeps the name lists.
 pub fn law_secure()
     ensures runs { ContractionAddsNoRun }
     ensures names { ContractionKeepsNames }
 {}
 
-/// The deletion of a redundant place keeps all runs, as each rule is a case of Berthelot's condition;
-/// that of a redundant dummy keeps the name lists, and that of any transition adds no run.
+/// The deletion of a redundant place keeps all runs, as each rule is a case of Berthelot's
+/// condition; that of a redundant dummy keeps the name lists, and that of any transition adds no
+/// run.
 pub fn law_deletions()
     ensures structural { StructuralDeletionKeepsRuns }
     ensures rules { RulesAreStructural }
@@ -60,8 +62,8 @@ pub fn law_deletions()
     ensures runs { TransDeletionAddsNoRun }
 {}
 
-/// A secure contraction that brings no structural auto-conflict keeps a clean graph clean, and so do
-/// the deletion of a redundant place and that of any transition.
+/// A secure contraction that brings no structural auto-conflict keeps a clean graph clean, and so
+/// do the deletion of a redundant place and that of any transition.
 pub fn law_clean()
     ensures contraction { ContractionKeepsClean }
     ensures place { PlaceDeletionKeepsClean }

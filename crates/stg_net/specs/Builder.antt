@@ -25,7 +25,16 @@ entry_signal e = record { name = e.0.items; kind = e.1 }
 
 -- the signals are the entries of the map, in its order
 abbrev pub building_of : Inside → Building
-building_of b = record { limits = b.limits; lists = record { signals = map entry_signal b.signals.entries; trans = b.trans.items; tokens = b.tokens.items; arcs = b.arcs.items } }
+building_of b =
+    record {
+      limits = b.limits;
+      lists = record {
+        signals = map entry_signal b.signals.entries;
+        trans = b.trans.items;
+        tokens = b.tokens.items;
+        arcs = b.arcs.items;
+      };
+    }
 
 -- each count is within its limit, names and arcs differ, and numbers are there
 pub record IsBuilder (b : Inside) : Type 0 where

@@ -1,4 +1,5 @@
--- A net under construction: its limits, and its lists so far, with the arcs in the order in which they came.
+-- A net under construction: its limits, and its lists so far, with the
+-- arcs in the order in which they came.
 use Rattle.std.specs.Prelude.{◌≡◌, ℕ, [], ◌∷◌, ◌++◌, Result, IfErr, slice_set, ◌⊎◌}
 use Rattle.stg_net.specs.declared.signal.Signal.{Signal}
 use Rattle.stg_net.specs.declared.trans.TransName.{TransName}
@@ -25,7 +26,8 @@ OnlyErr full r = IfErr r (λ e. (e ≡ full) ⊎ (e ≡ NoMemory))
 
 -- nothing has been added
 abbrev pub empty_building : Limits → Building
-empty_building l = record { limits = l; lists = record { signals = []; trans = []; tokens = []; arcs = [] } }
+empty_building l =
+    record { limits = l; lists = record { signals = []; trans = []; tokens = []; arcs = [] } }
 
 -- the signal is added last
 abbrev pub with_signal : Building → Signal → Building

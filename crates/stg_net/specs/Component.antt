@@ -18,7 +18,8 @@ is_one_of numbers k = list_any (λ o. o == k) numbers
 
 -- an own signal keeps its kind, or has that of a shared one; every other one is an input
 abbrev pub component_kind : List ℕ → List ℕ → ℕ → Kind → Kind
-component_kind own shared k kind = if is_one_of own k then (if is_one_of shared k then shared_kind kind else kind) else Input
+component_kind own shared k kind =
+    if is_one_of own k then (if is_one_of shared k then shared_kind kind else kind) else Input
 
 -- a signal of that number, with the kind that it has in the component
 abbrev pub component_signal : List ℕ → List ℕ → ℕ × Signal → Signal
@@ -26,4 +27,5 @@ component_signal own shared (k, s) = record s { kind = component_kind own shared
 
 -- the net as the component that owns these signals; other components know those that are shared
 abbrev pub component : List ℕ → List ℕ → NetLists → NetLists
-component own shared n = record n { signals = map (component_signal own shared) (enumerate_from 0 n.signals) }
+component own shared n =
+    record n { signals = map (component_signal own shared) (enumerate_from 0 n.signals) }

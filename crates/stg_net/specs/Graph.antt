@@ -1,4 +1,5 @@
--- A graph: places with their tokens, transitions with their full names, and the weights of the arcs between them.
+-- A graph: places with their tokens, transitions with their full names, and
+-- the weights of the arcs between them.
 use Rattle.std.specs.Prelude.{◌≡◌, ℕ, Bool, false, List, Option, Some, None, IsSome, IsTrue, length, slice_index, slice_index_or}
 use Rattle.std.specs.List.{list_any, range_with_len}
 use Rattle.std.specs.Str.{bytes_eq}
@@ -16,8 +17,10 @@ pub record Place : Type 0 where
   pub taken : List ℕ
   pub given : List ℕ
 
--- Places and transitions stand at their numbers, with `None` where one has gone. The next new place gets the number `length places`.
--- In the graphs that nets and edits make, each place has one number for each transition, and 0 for one that has gone.
+-- Places and transitions stand at their numbers, with `None` where one has gone. The next new
+-- place gets the number `length places`.
+-- In the graphs that nets and edits make, each place has one number for each
+-- transition, and 0 for one that has gone.
 -- `first_places` is the number of places that the graph began with, and stays through all edits.
 pub record Graph : Type 0 where
   pub places : List (Option Place)

@@ -33,7 +33,8 @@ place_of n p = Some (record {
 
 -- the transition's name with the name of its signal
 abbrev pub full_name : NetLists → TransName → FullName
-full_name n t = record { signal = (signal_at n.signals t.signal).name; edge = t.edge; index = t.index }
+full_name n t =
+    record { signal = (signal_at n.signals t.signal).name; edge = t.edge; index = t.index }
 
 -- the initial component with these signals known: all places and transitions of the net
 abbrev pub initial : NetLists → List ℕ → Graph

@@ -23,7 +23,10 @@ IsFalseFirst a b = (a ≡ false) × (b ≡ true)
 
 -- the order of arcs: by place, then by transition, then those out of the place first
 abbrev pub IsBefore : NetArc → NetArc → Type 0
-IsBefore a b = (a.place < b.place) ⊎ ((a.place ≡ b.place) × ((a.trans < b.trans) ⊎ ((a.trans ≡ b.trans) × IsFalseFirst a.into b.into)))
+IsBefore a b =
+    (a.place < b.place)
+    ⊎ ((a.place ≡ b.place)
+    × ((a.trans < b.trans) ⊎ ((a.trans ≡ b.trans) × IsFalseFirst a.into b.into)))
 
 -- the numbers of an arc are there, and its weight is at least 1
 pub record IsArcOf (places trans : ℕ) (a : NetArc) : Type 0 where

@@ -39,12 +39,16 @@ signals_of_kind signals kind = numbers_where (has_kind signals kind) (length sig
 
 -- the old numbers of the signals: inputs, then outputs, then internals, each kind in its old order
 abbrev pub signal_order : List Signal → List ℕ
-signal_order signals = signals_of_kind signals Input ++ signals_of_kind signals Output ++ signals_of_kind signals Internal
+signal_order signals =
+    signals_of_kind signals Input ++ signals_of_kind signals Output
+    ++ signals_of_kind signals Internal
 
 -- the least number of a transition that gives to the place; none where no transition does
 abbrev pub least_giver : ℕ → ℕ → List NetArc → ℕ
 least_giver none p [] = none
-least_giver none p (a ∷ arcs) = if a.into && (a.place == p) then min a.trans (least_giver none p arcs) else least_giver none p arcs
+least_giver none p (a ∷ arcs) =
+    if a.into && (a.place == p) then min a.trans (least_giver none p arcs)
+    else least_giver none p arcs
 
 -- the first transition that gives to the place, or the number of transitions where none does
 abbrev pub first_giver : NetLists → ℕ → ℕ

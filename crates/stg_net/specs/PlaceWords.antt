@@ -9,7 +9,8 @@ use Rattle.stg_net.specs.Words.{trans_word}
 
 -- two transitions between < (60) and > (62), with a comma (44)
 abbrev pub between_word : NetLists → ℕ → ℕ → List ℕ
-between_word n from to = 60 ∷ trans_word n.signals n.trans from ++ 44 ∷ trans_word n.signals n.trans to ++ 62 ∷ []
+between_word n from to =
+    60 ∷ trans_word n.signals n.trans from ++ 44 ∷ trans_word n.signals n.trans to ++ 62 ∷ []
 
 -- a place's own name, or the two transitions between which it stands
 abbrev pub word_of_place : NetLists → PlaceName → List ℕ

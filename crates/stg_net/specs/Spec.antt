@@ -16,7 +16,8 @@ abbrev pub IsPlaceNameOf : ℕ → PlaceName → Type 0
 IsPlaceNameOf trans (Named name) = ⊤
 IsPlaceNameOf trans (Between from to) = (from < trans) × (to < trans)
 
--- the lists are a net within the limits of a component, its names have their form, and each place has one name
+-- the lists are a net within the limits of a component, its names have
+-- their form, and each place has one name
 pub record IsSpec (s : SpecLists) : Type 0 where
   pub is_net : IsNet s.net
   pub within : IsWithin PART s.net

@@ -26,16 +26,20 @@ impl Model for Net {
 
     ghost Value = { NetLists };
 
-    ghost view = { λ n. record { signals = n.signals; trans = n.trans; tokens = n.tokens; arcs = n.arcs } };
+    ghost view = { λ n. record
+        { signals = n.signals; trans = n.trans; tokens = n.tokens; arcs = n.arcs } };
 
-    ghost invariant = { λ n. IsNet (record { signals = n.signals; trans = n.trans; tokens = n.tokens; arcs = n.arcs }) };
+    ghost invariant = { λ n. IsNet (record
+        { signals = n.signals; trans = n.trans; tokens = n.tokens; arcs = n.arcs }) };
 }
 
 impl Net {
     /// Makes a net of its four lists.
     pub fn of(signals: Seq<Signal>, trans: Seq<TransName>, tokens: Nums, arcs: Seq<NetArc>) -> Self
-        requires { IsNet (record { signals = signals; trans = trans; tokens = tokens; arcs = arcs }) }
-        ensures { result ≡ record { signals = signals; trans = trans; tokens = tokens; arcs = arcs } }
+        requires { IsNet
+            (record { signals = signals; trans = trans; tokens = tokens; arcs = arcs }) }
+        ensures { result
+            ≡ record { signals = signals; trans = trans; tokens = tokens; arcs = arcs } }
     {
         Net {
             signals,
@@ -128,7 +132,8 @@ fn component_signals(
     shared: &[u32],
     signals: &[Signal],
 ) -> Result<Seq<Signal>, NoMemory>
-    ensures { IfOk result (λ n. n ≡ map (component_signal own.now shared.now) (enumerate_from 0 signals.now)) }
+    ensures { IfOk result
+        (λ n. n ≡ map (component_signal own.now shared.now) (enumerate_from 0 signals.now)) }
 {
     let mut list = Seq::new(alloc);
     for (s, signal) in signals.iter().enumerate() {

@@ -108,7 +108,8 @@ fn lower(keys: &mut Nums, arc: NetArc)
 
 fn find_givers(alloc: Global, net: &Net) -> Result<Nums, NoMemory>
     ensures len { IfOk result (λ keys. length keys ≡ length net.now.tokens) }
-    ensures least { IfOk result (λ keys. (p : ℕ) → p < length keys → slice_index keys p ≡ first_giver net.now p) }
+    ensures least { IfOk result
+        (λ keys. (p : ℕ) → p < length keys → slice_index keys p ≡ first_giver net.now p) }
 {
     let none = net.trans().len() as u32;
     let mut keys = Seq::from_vec(vec![in alloc; none; net.tokens().len()]?);
@@ -170,7 +171,8 @@ fn push_arcs(list: &mut Seq<NetArc>, arcs: &[NetArc], place: u32) -> Result<(), 
 fn move_arcs(alloc: Global, arcs: &[NetArc], order: &[u32]) -> Result<Seq<NetArc>, NoMemory>
     requires few { length order.now < 2 ^ 32 }
     requires ordered { AllPairs IsBefore arcs.now }
-    ensures { IfOk result (λ list. list ≡ listed_below (arcs_moved arcs.now order.now) (length order.now)) }
+    ensures { IfOk result
+        (λ list. list ≡ listed_below (arcs_moved arcs.now order.now) (length order.now)) }
 {
     let mut list = Seq::new(alloc);
     for q in 0..order.len() as u32 {

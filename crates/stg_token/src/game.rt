@@ -13,7 +13,8 @@ use stg_net::{Net, NetArc, NoMemory, Nums, Seq};
 /// Makes the marking at which each run begins: the tokens of the net.
 pub fn start(alloc: Global, net: &Net) -> Result<Nums, NoMemory>
     ensures value { IfOk result (λ m. m ≡ net.now.tokens) }
-    ensures initial { IfOk result (λ m. (p : ℕ) → slice_index m p ≡ tokens_at (graph_of net.now) p) }
+    ensures initial { IfOk result
+        (λ m. (p : ℕ) → slice_index m p ≡ tokens_at (graph_of net.now) p) }
 {
     Seq::from_slice(alloc, net.tokens())
 }
@@ -70,7 +71,8 @@ fn give(m: &mut Nums, t: u32, arc: NetArc)
 fn take_all(arcs: &[NetArc], m: &mut Nums, t: u32)
     requires places { All (λ (a : NetArc). a.place < length m.old) arcs.now }
     requires held { (p : ℕ) → weight_of arcs.now false t p ≤ slice_index m.old p }
-    ensures tokens { (p : ℕ) → slice_index m.new p ≡ slice_index m.old p - weight_of arcs.now false t p }
+    ensures tokens { (p : ℕ)
+        → slice_index m.new p ≡ slice_index m.old p - weight_of arcs.now false t p }
     ensures kept { length m.new ≡ length m.old }
 {
     for arc in arcs {
@@ -81,7 +83,8 @@ fn take_all(arcs: &[NetArc], m: &mut Nums, t: u32)
 fn give_all(arcs: &[NetArc], m: &mut Nums, t: u32)
     requires places { All (λ (a : NetArc). a.place < length m.old) arcs.now }
     requires fits { (p : ℕ) → slice_index m.old p + weight_of arcs.now true t p < 2 ^ 32 }
-    ensures tokens { (p : ℕ) → slice_index m.new p ≡ slice_index m.old p + weight_of arcs.now true t p }
+    ensures tokens { (p : ℕ)
+        → slice_index m.new p ≡ slice_index m.old p + weight_of arcs.now true t p }
     ensures kept { length m.new ≡ length m.old }
 {
     for arc in arcs {
@@ -94,7 +97,8 @@ pub fn fire(net: &Net, m: &mut Nums, t: u32)
     requires marking { length m.old ≡ length net.now.tokens }
     requires enabled { IsEnabled (graph_of net.now) (slice_index m.old) t }
     requires fits { (p : ℕ) → fired (graph_of net.now) (slice_index m.old) t p < 2 ^ 32 }
-    ensures marking { (p : ℕ) → slice_index m.new p ≡ fired (graph_of net.now) (slice_index m.old) t p }
+    ensures marking { (p : ℕ)
+        → slice_index m.new p ≡ fired (graph_of net.now) (slice_index m.old) t p }
     ensures kept { length m.new ≡ length m.old }
 {
     let arcs = net.arcs();

@@ -19,4 +19,5 @@ word_length (b ∷ bs) = if is_single b then 1 else run_length (b ∷ bs)
 
 -- a word of n bytes in front, and the words after it
 abbrev pub word_and_rest : ℕ → ℕ → List ℕ → List WordAt
-word_and_rest n at bytes = record { text = take n bytes; start = at; end = at + n } ∷ words_at (at + n) (drop n bytes)
+word_and_rest n at bytes =
+    record { text = take n bytes; start = at; end = at + n } ∷ words_at (at + n) (drop n bytes)

@@ -18,7 +18,8 @@ use Rattle.astg_read.specs.inner.WellFormed.{IsTextArcIn, AreTextArcsIn, is_weig
 
 -- the net under construction with these signals
 abbrev pub with_all_signals : Building → List Signal → Building
-with_all_signals b signals = record b { lists = record (b.lists) { signals = b.lists.signals ++ signals } }
+with_all_signals b signals =
+    record b { lists = record (b.lists) { signals = b.lists.signals ++ signals } }
 
 -- the net under construction with these transitions
 abbrev pub with_all_trans : Building → List TransName → Building
@@ -26,14 +27,17 @@ with_all_trans b trans = record b { lists = record (b.lists) { trans = b.lists.t
 
 -- the net under construction with places of these tokens
 abbrev pub with_all_tokens : Building → List ℕ → Building
-with_all_tokens b tokens = record b { lists = record (b.lists) { tokens = b.lists.tokens ++ tokens } }
+with_all_tokens b tokens =
+    record b { lists = record (b.lists) { tokens = b.lists.tokens ++ tokens } }
 
 -- the net under construction with these arcs
 abbrev pub with_all_arcs : Building → List NetArc → Building
 with_all_arcs b arcs = record b { lists = record (b.lists) { arcs = b.lists.arcs ++ arcs } }
 
--- The net under construction has these transitions and places and the arcs of some text arcs, and room for those of the next text arc, which is a new one whose nodes are there.
-pub record IsReady (b : Building) (trans : List TransName) (all : List PlaceAt) (p : TextArc) : Type 0 where
+-- The net under construction has these transitions and places and the arcs of some text arcs, and
+-- room for those of the next text arc, which is a new one whose nodes are there.
+pub record IsReady (b : Building) (trans : List TransName) (all : List PlaceAt)
+    (p : TextArc) : Type 0 where
   pub trans_are : length trans ≡ length b.lists.trans
   pub places_are : length all ≡ length b.lists.tokens
   pub trans_fit : length trans < 2 ^ 32
@@ -47,8 +51,10 @@ pub record IsReady (b : Building) (trans : List TransName) (all : List PlaceAt) 
   pub fresh : list_any (same_text_arc p) done ≡ false
   pub room : length b.lists.arcs + length (arcs_of trans all p) ≤ b.limits.arcs
 
--- The net under construction has these transitions and places and the arcs of some text arcs, and room for those of these, which are new ones whose nodes are there.
-pub record AreReady (b : Building) (trans : List TransName) (all : List PlaceAt) (ps : List TextArc) : Type 0 where
+-- The net under construction has these transitions and places and the arcs of some text arcs, and
+-- room for those of these, which are new ones whose nodes are there.
+pub record AreReady (b : Building) (trans : List TransName) (all : List PlaceAt)
+    (ps : List TextArc) : Type 0 where
   pub trans_are : length trans ≡ length b.lists.trans
   pub places_are : length all ≡ length b.lists.tokens
   pub trans_fit : length trans < 2 ^ 32
@@ -64,10 +70,19 @@ pub record AreReady (b : Building) (trans : List TransName) (all : List PlaceAt)
 
 -- what signals and a graph say
 abbrev pub said_by : List Signal → GraphLists → Said
-said_by signals g = record { has_graph = true; declared = without_dummies signals; trans = g.trans; places = g.places; text_arcs = g.text_arcs; marking = None }
+said_by signals g =
+    record {
+      has_graph = true;
+      declared = without_dummies signals;
+      trans = g.trans;
+      places = g.places;
+      text_arcs = g.text_arcs;
+      marking = None;
+    }
 
 -- the specification of signals, a graph and the tokens of its places
-pub record IsBuilt (signals : List Signal) (g : GraphLists) (tokens : List ℕ) (s : SpecLists) : Type 0 where
+pub record IsBuilt (signals : List Signal) (g : GraphLists) (tokens : List ℕ)
+    (s : SpecLists) : Type 0 where
   pub signals_are : s.net.signals ≡ signals
   pub trans_are : s.net.trans ≡ g.trans
   pub tokens_are : s.net.tokens ≡ tokens

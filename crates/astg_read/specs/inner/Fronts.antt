@@ -22,4 +22,5 @@ front_target (w ∷ ws) = target_at w ws
 -- how many words the target in front takes
 abbrev pub target_words : Row → ℕ
 target_words [] = 0
-target_words (w ∷ ws) = if opens_group w then length (take 3 (w ∷ ws)) else suc (length (group_at ws))
+target_words (w ∷ ws) =
+    if opens_group w then length (take 3 (w ∷ ws)) else suc (length (group_at ws))

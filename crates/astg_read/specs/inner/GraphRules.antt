@@ -23,5 +23,6 @@ abbrev pub text_arc_fault : ℕ → List TextArc → List TextArc → List Targe
 text_arc_fault most old new targets =
     if list_any is_between_places new then Some BadArc
     else if has_repeat same_text_arc old new then Some RepeatedArc
-    else if not (list_all (is_good_group most) targets) || list_any weighs_trans new then Some BadWeight
+    else if not (list_all (is_good_group most) targets) || list_any weighs_trans new
+    then Some BadWeight
     else None

@@ -16,11 +16,14 @@ pub record GraphLists : Type 0 where
 
 -- the names that a further line declares join
 abbrev pub with_names : Declared → Row → Declared
-with_names d row = record { signals = d.signals ++ signals_on row; dummies = d.dummies ++ dummies_on row }
+with_names d row =
+    record { signals = d.signals ++ signals_on row; dummies = d.dummies ++ dummies_on row }
 
 -- a line before or at .graph
 abbrev pub with_header : Said → Row → Said
-with_header k row = if begins (codes ".graph") row then record k { has_graph = true } else record k { declared = with_names k.declared row }
+with_header k row =
+    if begins (codes ".graph") row then record k { has_graph = true }
+    else record k { declared = with_names k.declared row }
 
 -- a line of the graph
 abbrev pub with_graph_row : Said → Row → Said
@@ -32,7 +35,9 @@ with_graph_row k row = record k {
 
 -- a line after .graph and before or at .marking
 abbrev pub in_graph : Said → Row → Said
-in_graph k row = if begins (codes ".marking") row then record k { marking = Some (after_first row) } else if is_graph_row row then with_graph_row k row else k
+in_graph k row =
+    if begins (codes ".marking") row then record k { marking = Some (after_first row) }
+    else if is_graph_row row then with_graph_row k row else k
 
 -- a line after .graph
 abbrev pub after_graph : Said → Option Row → Row → Said
@@ -49,11 +54,16 @@ no_graph = record { trans = []; places = []; text_arcs = [] }
 
 -- the graph with this node
 abbrev pub with_node : GraphLists → Node → GraphLists
-with_node g n = record g { trans = firsts same_trans g.trans (node_trans n); places = firsts same_place g.places (node_place n) }
+with_node g n =
+    record g {
+      trans = firsts same_trans g.trans (node_trans n);
+      places = firsts same_place g.places (node_place n);
+    }
 
 -- the graph with the place between two nodes, where both are transitions
 abbrev pub with_between : GraphLists → Node → Node → GraphLists
-with_between g source target = record g { places = firsts same_place g.places (place_between source target) }
+with_between g source target =
+    record g { places = firsts same_place g.places (place_between source target) }
 
 -- the transitions of the targets of these text arcs
 abbrev pub trans_in : List TextArc → List TransName
@@ -65,7 +75,11 @@ places_in ps = flat_map (λ (p : TextArc). node_place p.target ++ place_between 
 
 -- the graph with the targets of these text arcs
 abbrev pub with_targets : GraphLists → List TextArc → GraphLists
-with_targets g ps = record g { trans = firsts same_trans g.trans (trans_in ps); places = firsts same_place g.places (places_in ps) }
+with_targets g ps =
+    record g {
+      trans = firsts same_trans g.trans (trans_in ps);
+      places = firsts same_place g.places (places_in ps);
+    }
 
 -- the graph with these text arcs
 abbrev pub with_text_arcs : GraphLists → List TextArc → GraphLists

@@ -35,7 +35,15 @@ said_of r = record {
 
 -- before the first line
 abbrev pub nothing : Said
-nothing = record { has_graph = false; declared = without_dummies []; trans = []; places = []; text_arcs = []; marking = None }
+nothing =
+    record {
+      has_graph = false;
+      declared = without_dummies [];
+      trans = [];
+      places = [];
+      text_arcs = [];
+      marking = None;
+    }
 
 -- the first rule that a line outside a marking breaks by what it says
 abbrev pub line_fault : ℕ → Said → Row → Option Rule
@@ -45,7 +53,8 @@ line_fault most k row = first_broken (line_rules most k row)
 abbrev pub said_up_to : Said → Row → Said
 said_up_to k row = if ends_text k row then k else after_row k row
 
--- A line outside a marking is taken by what it says, or refused with the first rule that it breaks, unless memory ran out.
+-- A line outside a marking is taken by what it says, or refused with the first rule
+-- that it breaks, unless memory ran out.
 abbrev pub Says : ℕ → Said → Row → Result (Unit {0}) LineError → Said → Type 0
 Says most k row (Ok _) new = (line_fault most k row ≡ None) × (new ≡ said_up_to k row)
 Says most k row (Err (Broken rule)) new = line_fault most k row ≡ Some rule
@@ -53,7 +62,8 @@ Says most k row (Err NoMemory) new = Unit {0}
 
 -- what comes of the line of a text without dummies: the rule that it breaks first, or none
 abbrev pub verdict : Limits → Said → Row → Option Rule
-verdict limits k row = first_broken (rules false limits k (after_row k row) (record { is_bad = false; words = row }))
+verdict limits k row =
+    first_broken (rules false limits k (after_row k row) (record { is_bad = false; words = row }))
 
 -- A line is taken, or refused with the first rule that it breaks, unless memory ran out.
 abbrev pub Takes : Limits → Said → Row → Result (Unit {0}) LineError → Said → Type 0
@@ -85,7 +95,9 @@ with_count too_many (Err e) = Err e
 
 -- where the marking has begun the graph has, and the words so far are good
 abbrev pub IsGood : ℕ → Said → Type 0
-IsGood most k = MatchOption k.marking ⊤ (λ words. (k.has_graph ≡ true) × (is_bad_marking most k.declared k.places words ≡ false))
+IsGood most k =
+    MatchOption k.marking ⊤
+    (λ words. (k.has_graph ≡ true) × (is_bad_marking most k.declared k.places words ≡ false))
 
 -- the counts are within the limits, the marking is good, and the lists are well formed
 pub record IsFaultless (limits : Limits) (k : Said) : Type 0 where
@@ -96,7 +108,10 @@ pub record IsFaultless (limits : Limits) (k : Said) : Type 0 where
 
 -- where the marking has begun, what the reader settled of it is
 abbrev pub IsSettledIn : ℕ → Reader → Type 0
-IsSettledIn most r = MatchOption r.marking ⊤ (λ words. IsSettled most (without_dummies r.signals) r.graph.places r.settled (before_close (drop 1 words)))
+IsSettledIn most r =
+    MatchOption r.marking ⊤
+    (λ words. IsSettled most (without_dummies r.signals) r.graph.places r.settled
+    (before_close (drop 1 words)))
 
 -- The text stands for this, or has this fault, unless memory ran out.
 abbrev pub Gives : Meaning → Result (Unit {0}) ReadError → Result Meaning Fault → Type 0

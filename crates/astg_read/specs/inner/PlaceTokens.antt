@@ -11,7 +11,8 @@ pub record PlaceTokens : Type 0 where
 
 -- the place that an entry names, with its tokens, where it names one
 abbrev pub entry_place_tokens : Declared → Entry → Option PlaceTokens
-entry_place_tokens d e = option_map (λ p. record { place = p; tokens = tokens_of e.tokens }) (named_place d e.place)
+entry_place_tokens d e =
+    option_map (λ p. record { place = p; tokens = tokens_of e.tokens }) (named_place d e.place)
 
 -- the places that entries name, with their tokens, in order
 abbrev pub place_tokens_of : Declared → List Entry → List PlaceTokens

@@ -49,7 +49,8 @@ target_views targets = map target_view targets
 
 -- a text arc whose names are slices of the text
 abbrev pub text_arc_view : ReadTextArc → TextArc
-text_arc_view p = record { source = node_view p.source; target = node_view p.target; weight = p.weight }
+text_arc_view p =
+    record { source = node_view p.source; target = node_view p.target; weight = p.weight }
 
 -- text arcs, in order
 abbrev pub text_arc_views : List ReadTextArc → List TextArc
@@ -62,7 +63,8 @@ place_view (read_place.Between t u) = Between t u
 
 -- the ends of a text arc with its weight
 abbrev pub weighed_view : Ends × Option ℕ → TextArc
-weighed_view e = record { source = node_view e.0.source; target = node_view e.0.target; weight = e.1 }
+weighed_view e =
+    record { source = node_view e.0.source; target = node_view e.0.target; weight = e.1 }
 
 -- words that are slices of the text
 abbrev pub slices_view : List (Bor (List ℕ)) → Row

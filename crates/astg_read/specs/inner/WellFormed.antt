@@ -50,7 +50,8 @@ abbrev pub is_place_in : List TransName → PlaceAt → Bool
 is_place_in trans (Named p) = true
 is_place_in trans (Between t u) = list_any (same_trans t) trans && list_any (same_trans u) trans
 
--- names have their form and differ, as do transitions and text arcs; numbers are there, and weights within the limit
+-- names have their form and differ, as do transitions and text arcs; numbers
+-- are there, and weights within the limit
 pub record IsWellFormed (most : ℕ) (k : Said) : Type 0 where
   pub named : list_all is_named k.declared.signals ≡ true
   pub names_differ : has_repeat same_name [] k.declared.signals ≡ false

@@ -44,7 +44,8 @@ has_past xs = list_any is_past xs
 -- whether the tokens of p or a weight at it are past the limit
 abbrev pub is_large_at : Graph → ℕ → Bool
 is_large_at g p =
-    nat_lt PART.weight (tokens_at g p) || has_past (trans_round true g p) || has_past (trans_round false g p)
+    nat_lt PART.weight (tokens_at g p) || has_past (trans_round true g p)
+    || has_past (trans_round false g p)
 
 -- a place that is left has tokens or a weight past the limit
 pub record HasLargePlace (g : Graph) (t : ℕ) : Type 0 where

@@ -38,7 +38,8 @@ net names trans tokens arcs = record {
 }
 
 -- the net of these tables, where the names are lent
-abbrev pub lent_net : List (Bor (List ℕ)) → List (ℕ × Edge × ℕ) → List ℕ → List (ℕ × ℕ × Bool × ℕ) → NetLists
+abbrev pub lent_net : List (Bor (List ℕ)) → List (ℕ × Edge × ℕ) → List ℕ → List (ℕ × ℕ × Bool × ℕ)
+    → NetLists
 lent_net names trans tokens arcs = net (lent_texts names) trans tokens arcs
 
 -- so many edits were made
@@ -61,13 +62,15 @@ trans_differ (s, e, i) (t, f, j) = not (s == t) || (not (is_edge e f) || not (i 
 -- whether the ends of an arc are there, and its weight is within the limits
 abbrev pub is_arc : ℕ → ℕ → NetArc → Bool
 is_arc places trans a =
-    nat_lt a.place places && (nat_lt a.trans trans && (nat_lt 0 a.weight && nat_le a.weight PART.weight))
+    nat_lt a.place places
+    && (nat_lt a.trans trans && (nat_lt 0 a.weight && nat_le a.weight PART.weight))
 
 -- whether an arc stands before another
 abbrev pub stands_before : NetArc → NetArc → Bool
 stands_before a b =
     nat_lt a.place b.place
-    || ((a.place == b.place) && (nat_lt a.trans b.trans || ((a.trans == b.trans) && (not a.into && b.into))))
+    || ((a.place == b.place)
+    && (nat_lt a.trans b.trans || ((a.trans == b.trans) && (not a.into && b.into))))
 
 -- whether names and transitions are those of a net
 abbrev pub are_labels : List (List ℕ) → List (ℕ × Edge × ℕ) → Bool

@@ -36,4 +36,5 @@ pub record ArePlacesRemoved (t end : ℕ) (l l' : Layout) : Type 0 where
       → 0 < touch l t p → removed_at l' Place p < length l'.removals
   pub ahead : (p : ℕ) → end ≤ p → removed_at l' Place p ≡ removed_at l Place p
   pub untouched : (p : ℕ) → touch l t p ≡ 0 → removed_at l' Place p ≡ removed_at l Place p
-  pub removed_before : (p : ℕ) → removed_at l Place p ≢ none → removed_at l' Place p ≡ removed_at l Place p
+  pub removed_before : (p : ℕ) → removed_at l Place p ≢ none
+      → removed_at l' Place p ≡ removed_at l Place p

@@ -13,8 +13,10 @@ is_held m t a = not (connects_trans t false a) || nat_le a.weight (slice_index m
 
 -- the marking after t has taken by this arc
 abbrev pub with_taken : ℕ → NetArc → List ℕ → List ℕ
-with_taken t a m = if connects_trans t false a then slice_set m a.place (slice_index m a.place - a.weight) else m
+with_taken t a m =
+    if connects_trans t false a then slice_set m a.place (slice_index m a.place - a.weight) else m
 
 -- the marking after t has given by this arc
 abbrev pub with_given : ℕ → NetArc → List ℕ → List ℕ
-with_given t a m = if connects_trans t true a then slice_set m a.place (slice_index m a.place + a.weight) else m
+with_given t a m =
+    if connects_trans t true a then slice_set m a.place (slice_index m a.place + a.weight) else m
