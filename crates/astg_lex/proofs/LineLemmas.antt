@@ -1,21 +1,13 @@
 -- The first line of a text, and what stands before its comment.
-use Rattle.std.proofs.Common.{◌≡◌, ◌+◌, ◌<◌, ◌==◌, ℕ, suc, List, [], ◌∷◌, ◌++◌, true, false, cond, inl, inr, arith, drop, take, length, refl, sym, ap, subst, ◌∙◌, ◌-◌, length-drop, take_all, append_assoc}
+use Rattle.std.proofs.Common.{◌≡◌, ◌+◌, ◌<◌, ◌==◌, ℕ, suc, List, [], ◌∷◌, ◌++◌, true, false, not, cond, inl, inr, arith, drop, take, length, refl, sym, ap, subst, ◌∙◌, ◌-◌, length-drop, take_all, append_assoc}
+use Rattle.std.specs.List.{position_or_len}
 use Rattle.std.proofs.lemmas.List.{take-append-drop}
 use Rattle.astg_lex.proofs.SpanLemmas.{spans_of}
 use Rattle.std.proofs.lemmas.Bool.{cases_Bool}
 use Rattle.astg_lex.specs.Lines.{lines_of, with_byte, line_length, code_of, has_bad_byte}
-use Rattle.astg_lex.specs.inner.Lengths.{code_length}
 use Rattle.astg_lex.specs.Words.{words_at}
 use Rattle.astg_lex.specs.Lexing.{Lexing, Advances, text_left, word_views, AreSpans}
 use Rattle.astg_lex.specs.declared.words.Word.{Word}
-
--- what the first bytes are
-pub code_of-take : (line : List ℕ) → take (code_length line) line ≡ code_of line
-code_of-take [] = refl
-code_of-take (b ∷ bs) = elim (cases_Bool (b == 35)) [
-  | inl k ↦ ap (λ s. take (cond s 0 (suc (code_length bs))) (b ∷ bs)) k ∙ sym (ap (λ s. cond s [] (b ∷ code_of bs)) k)
-  | inr k ↦ ap (λ s. take (cond s 0 (suc (code_length bs))) (b ∷ bs)) k ∙ ap (λ l. b ∷ l) (code_of-take bs) ∙ sym (ap (λ s. cond s [] (b ∷ code_of bs)) k)
-]
 
 -- the first n bytes are a line, and the others begin after one more
 abbrev first_and_rest : ℕ → List ℕ → List (List ℕ)
@@ -28,10 +20,10 @@ longer : (b : ℕ) (bs : List ℕ) → (b == 10) ≡ false → lines_of (b ∷ b
 longer b bs k = ap (λ s. cond s ([] ∷ lines_of bs) (with_byte b (lines_of bs))) k
 
 length-ended : (b : ℕ) (bs : List ℕ) → (b == 10) ≡ true → line_length (b ∷ bs) ≡ 0
-length-ended b bs k = ap (λ s. cond s 0 (suc (line_length bs))) k
+length-ended b bs k = ap {B = ℕ} (λ s. cond (not s) (1 + line_length bs) 0) k
 
 length-longer : (b : ℕ) (bs : List ℕ) → (b == 10) ≡ false → line_length (b ∷ bs) ≡ suc (line_length bs)
-length-longer b bs k = ap (λ s. cond s 0 (suc (line_length bs))) k
+length-longer b bs k = ap {B = ℕ} (λ s. cond (not s) (1 + line_length bs) 0) k ∙ (let e : 1 + line_length bs ≡ suc (line_length bs) = omega arith in e)
 
 lines_of-from : (b : ℕ) (bs : List ℕ) → lines_of (b ∷ bs) ≡ first_and_rest (line_length (b ∷ bs)) (b ∷ bs)
 lines_of-from b [] = elim (cases_Bool (b == 10)) [
@@ -48,12 +40,17 @@ lines_of-first [] n e some = absurd (omega (arith, some))
 lines_of-first (b ∷ bs) n e some =
     lines_of-from b bs ∙ ap (λ k. first_and_rest k (b ∷ bs)) (sym e) ∙ ap (λ k. take n (b ∷ bs) ∷ lines_of (drop k (b ∷ bs))) (let s : suc n ≡ n + 1 = omega arith in s)
 
+-- what stands from the first # on
+abbrev comment_of : List ℕ → List ℕ
+comment_of line = drop (position_or_len (λ b. b == 35) line) line
+
 -- what is left is the line's code, and all else
-split_code : (n : ℕ) (bytes : List ℕ) → bytes ≡ code_of (take n bytes) ++ (drop (code_length (take n bytes)) (take n bytes) ++ drop n bytes)
+split_code : (n : ℕ) (bytes : List ℕ) → bytes ≡ code_of (take n bytes) ++ (comment_of (take n bytes) ++ drop n bytes)
 split_code n bytes =
+    let line = take n bytes in
     sym (take-append-drop n bytes)
-    ∙ ap (λ l. l ++ drop n bytes) (sym (take-append-drop (code_length (take n bytes)) (take n bytes)) ∙ ap (λ l. l ++ drop (code_length (take n bytes)) (take n bytes)) (code_of-take (take n bytes)))
-    ∙ append_assoc (code_of (take n bytes)) (drop (code_length (take n bytes)) (take n bytes)) (drop n bytes)
+    ∙ ap (λ l. l ++ drop n bytes) (sym (take-append-drop (position_or_len (λ b. b == 35) line) line))
+    ∙ append_assoc (code_of line) (comment_of line) (drop n bytes)
 
 -- a line was read where its bytes are the first of what is left, and one byte more is gone
 pub advances : (old new : Lexing) (n : ℕ) (words : List Word) → 0 < length (text_left old) → n ≡ line_length (text_left old) → text_left new ≡ drop (n + 1) (text_left old)
@@ -64,7 +61,7 @@ advances old new n words some e rest good views same next = record {
   first = lines_of-first (text_left old) n e some ∙ ap (λ k. take k (text_left old) ∷ lines_of (drop (n + 1) (text_left old))) e ∙ ap (λ bs. take (line_length (text_left old)) (text_left old) ∷ lines_of bs) (sym rest);
   good = ap (λ k. has_bad_byte (take k (text_left old))) (sym e) ∙ good;
   words_are = views ∙ ap (λ k. words_at old.at (code_of (take k (text_left old)))) e;
-  spans = subst (λ ws. AreSpans old.text old.at ws) (sym views) (spans_of old.text old.at (code_of (take n (text_left old))) (drop (code_length (take n (text_left old))) (take n (text_left old)) ++ drop n (text_left old)) (split_code n (text_left old)));
+  spans = subst (λ ws. AreSpans old.text old.at ws) (sym views) (spans_of old.text old.at (code_of (take n (text_left old))) (comment_of (take n (text_left old)) ++ drop n (text_left old)) (split_code n (text_left old)));
   same_text = same;
   next_number = next;
   shorter = omega (arith, ap length rest, length-drop (n + 1) (text_left old), some);

@@ -2,7 +2,8 @@
 use Rattle.std.proofs.Common.{◌≡◌, ◌+◌, ◌<◌, ◌≤◌, ℕ, suc, List, [], ◌∷◌, Bool, true, false, cond, not, ◌&&◌, ◌||◌, inl, inr, arith, drop, take, length, get_or, sym, ap, ◌∙◌}
 use Rattle.std.proofs.lemmas.Bool.{cases_Bool, and_from, true≢false}
 use Rattle.astg_lex.specs.Words.{words_at, is_blank, is_single, is_joining, begins_joining, longer}
-use Rattle.astg_lex.specs.inner.Lengths.{run_length, word_length, word_and_rest}
+use Rattle.std.specs.List.{prefix_len}
+use Rattle.astg_lex.specs.inner.Lengths.{word_length, word_and_rest}
 
 pick-middle : {A : Type 0} (t u : Bool) (x y z : A) → t ≡ false → u ≡ true → cond t x (cond u y z) ≡ y
 pick-middle t u x y z h k = ap (λ s. cond s x (cond u y z)) h ∙ ap (λ s. cond s y z) k
@@ -28,16 +29,16 @@ grown at b bs h k = pick-middle (is_blank b) (is_joining b && begins_joining bs)
 longer-run : (at n b : ℕ) (bs : List ℕ) → longer at b (word_and_rest n (at + 1) bs) ≡ word_and_rest (suc n) at (b ∷ bs)
 longer-run at n b bs = let e : (at + 1) + n ≡ at + suc n = omega arith in ap (λ (k : ℕ). record { text = b ∷ take n bs; start = at; end = k } ∷ words_at k (drop n bs)) e
 
-run-more : (b : ℕ) (bs : List ℕ) → is_joining b ≡ true → run_length (b ∷ bs) ≡ suc (run_length bs)
-run-more b bs h = ap (λ s. cond s (suc (run_length bs)) 0) h
+run-more : (b : ℕ) (bs : List ℕ) → is_joining b ≡ true → prefix_len is_joining (b ∷ bs) ≡ suc (prefix_len is_joining bs)
+run-more b bs h = ap {B = ℕ} (λ s. cond s (1 + prefix_len is_joining bs) 0) h ∙ (let e : 1 + prefix_len is_joining bs ≡ suc (prefix_len is_joining bs) = omega arith in e)
 
-run-none : (b : ℕ) (bs : List ℕ) → is_joining b ≡ false → run_length (b ∷ bs) ≡ 0
-run-none b bs h = ap (λ s. cond s (suc (run_length bs)) 0) h
+run-none : (b : ℕ) (bs : List ℕ) → is_joining b ≡ false → prefix_len is_joining (b ∷ bs) ≡ 0
+run-none b bs h = ap {B = ℕ} (λ s. cond s (1 + prefix_len is_joining bs) 0) h
 
-pub words_at-run : (at b : ℕ) (bs : List ℕ) → is_joining b ≡ true → words_at at (b ∷ bs) ≡ word_and_rest (run_length (b ∷ bs)) at (b ∷ bs)
+pub words_at-run : (at b : ℕ) (bs : List ℕ) → is_joining b ≡ true → words_at at (b ∷ bs) ≡ word_and_rest (prefix_len is_joining (b ∷ bs)) at (b ∷ bs)
 words_at-run at b [] h = alone at b [] (joining-not_blank b h) (ap (λ t. t && false) h) ∙ ap (λ n. word_and_rest n at (b ∷ [])) (sym (run-more b [] h))
 words_at-run at b (c ∷ cs) h = elim (cases_Bool (is_joining c)) [
-  | inl k ↦ grown at b (c ∷ cs) (joining-not_blank b h) (and_from (is_joining b) (is_joining c) h k) ∙ ap (longer at b) (words_at-run (at + 1) c cs k) ∙ longer-run at (run_length (c ∷ cs)) b (c ∷ cs) ∙ ap (λ n. word_and_rest n at (b ∷ c ∷ cs)) (sym (run-more b (c ∷ cs) h))
+  | inl k ↦ grown at b (c ∷ cs) (joining-not_blank b h) (and_from (is_joining b) (is_joining c) h k) ∙ ap (longer at b) (words_at-run (at + 1) c cs k) ∙ longer-run at (prefix_len is_joining (c ∷ cs)) b (c ∷ cs) ∙ ap (λ n. word_and_rest n at (b ∷ c ∷ cs)) (sym (run-more b (c ∷ cs) h))
   | inr k ↦ alone at b (c ∷ cs) (joining-not_blank b h) (ap (λ t. t && is_joining c) h ∙ k) ∙ ap (λ n. word_and_rest n at (b ∷ c ∷ cs)) (sym (run-more b (c ∷ cs) h ∙ ap suc (run-none c cs k)))
 ]
 
@@ -48,10 +49,10 @@ single-not_joining : (b : ℕ) → is_blank b ≡ false → is_single b ≡ true
 single-not_joining b h k = ap (λ x. not (x || is_single b)) h ∙ ap not k
 
 length-single : (b : ℕ) (bs : List ℕ) → is_single b ≡ true → word_length (b ∷ bs) ≡ 1
-length-single b bs h = ap (λ s. cond s 1 (run_length (b ∷ bs))) h
+length-single b bs h = ap (λ s. cond s 1 (prefix_len is_joining (b ∷ bs))) h
 
-length-run : (b : ℕ) (bs : List ℕ) → is_single b ≡ false → word_length (b ∷ bs) ≡ run_length (b ∷ bs)
-length-run b bs h = ap (λ s. cond s 1 (run_length (b ∷ bs))) h
+length-run : (b : ℕ) (bs : List ℕ) → is_single b ≡ false → word_length (b ∷ bs) ≡ prefix_len is_joining (b ∷ bs)
+length-run b bs h = ap (λ s. cond s 1 (prefix_len is_joining (b ∷ bs))) h
 
 -- bytes that begin with no blank begin with a word
 pub words_at-word : (at : ℕ) (bytes : List ℕ) → 0 < length bytes → is_blank (get_or bytes 0 0) ≡ false → words_at at bytes ≡ word_and_rest (word_length bytes) at bytes
@@ -61,7 +62,7 @@ words_at-word at (b ∷ bs) some h = elim (cases_Bool (is_single b)) [
   | inr k ↦ words_at-run at b bs (joining-from b h k) ∙ ap (λ n. word_and_rest n at (b ∷ bs)) (sym (length-run b bs k))
 ]
 
-pub run_length-most : (bytes : List ℕ) → run_length bytes ≤ length bytes
+pub run_length-most : (bytes : List ℕ) → prefix_len is_joining bytes ≤ length bytes
 run_length-most [] = omega arith
 run_length-most (b ∷ bs) = elim (cases_Bool (is_joining b)) [
   | inl k ↦ omega (arith, run-more b bs k, run_length-most bs)
@@ -82,6 +83,6 @@ word_length-least (b ∷ bs) some h = elim (cases_Bool (is_single b)) [
   | inr k ↦ omega (arith, length-run b bs k, run-more b bs (joining-from b h k))
 ]
 
-pub words_at-joined : (at : ℕ) (bytes : List ℕ) → 0 < length bytes → is_blank (get_or bytes 0 0) ≡ false → is_single (get_or bytes 0 0) ≡ false → words_at at bytes ≡ word_and_rest (run_length bytes) at bytes
+pub words_at-joined : (at : ℕ) (bytes : List ℕ) → 0 < length bytes → is_blank (get_or bytes 0 0) ≡ false → is_single (get_or bytes 0 0) ≡ false → words_at at bytes ≡ word_and_rest (prefix_len is_joining bytes) at bytes
 words_at-joined at [] some h k = absurd (omega (arith, some))
 words_at-joined at (b ∷ bs) some h k = words_at-run at b bs (joining-from b h k)

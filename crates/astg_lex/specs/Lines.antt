@@ -1,6 +1,6 @@
 -- The lines of a text, and the bytes that may stand in them.
-use Rattle.std.specs.Prelude.{ℕ, Bool, not, ◌&&◌, ◌||◌, ◌==◌, ◌+◌, nat_le, suc, List, [], ◌∷◌, if◌then◌else◌}
-use Rattle.std.specs.List.{list_all}
+use Rattle.std.specs.Prelude.{ℕ, Bool, not, ◌&&◌, ◌||◌, ◌==◌, nat_le, List, [], ◌∷◌, if◌then◌else◌}
+use Rattle.std.specs.List.{list_all, count_by, before_first, position_or_len}
 
 -- the lines with one byte more in front of the first
 abbrev pub with_byte : ℕ → List (List ℕ) → List (List ℕ)
@@ -14,13 +14,11 @@ lines_of (b ∷ bs) = if b == 10 then [] ∷ lines_of bs else with_byte b (lines
 
 -- how many LF bytes there are
 abbrev pub line_ends : List ℕ → ℕ
-line_ends [] = 0
-line_ends (b ∷ bs) = if b == 10 then line_ends bs + 1 else line_ends bs
+line_ends text = count_by (λ b. b == 10) text
 
 -- what stands before the first # (35)
 abbrev pub code_of : List ℕ → List ℕ
-code_of [] = []
-code_of (b ∷ bs) = if b == 35 then [] else b ∷ code_of bs
+code_of line = before_first (λ b. b == 35) line
 
 -- printable, a tab (9) or CR (13)
 abbrev pub may_stand : ℕ → Bool
@@ -32,5 +30,4 @@ has_bad_byte line = not (list_all may_stand (code_of line))
 
 -- how many bytes stand before the first LF
 abbrev pub line_length : List ℕ → ℕ
-line_length [] = 0
-line_length (b ∷ bs) = if b == 10 then 0 else suc (line_length bs)
+line_length text = position_or_len (λ b. b == 10) text

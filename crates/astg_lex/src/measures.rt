@@ -1,10 +1,10 @@
 //! How many bytes of a text belong to what begins there.
 
-ghost use Rattle.std.specs.Prelude.{◌≡◌, ◌≤◌, ◌<◌, ℕ, false, ◌+◌, drop, length, slice_index};
-ghost use Rattle.std.specs.List.{list_all};
+ghost use Rattle.std.specs.Prelude.{◌≡◌, ◌==◌, ◌≤◌, ◌<◌, ℕ, false, ◌+◌, drop, length, slice_index};
+ghost use Rattle.std.specs.List.{list_all, position_or_len, prefix_len};
 ghost use Rattle.astg_lex.specs.Lines.{may_stand};
 ghost use Rattle.astg_lex.specs.Lines as lines;
-ghost use Rattle.astg_lex.specs.inner.Lengths.{code_length, run_length, word_length, word_and_rest};
+ghost use Rattle.astg_lex.specs.inner.Lengths.{word_length, word_and_rest};
 ghost use Rattle.astg_lex.specs.Words as words;
 
 pub fn may_stand_here(b: u8) -> bool
@@ -41,24 +41,14 @@ pub fn line_length(bytes: &[u8]) -> usize
     ensures value { result ≡ lines.line_length bytes.now }
     ensures most { result ≤ length bytes.now }
 {
-    for (i, b) in bytes.iter().enumerate() {
-        if *b == b'\n' {
-            return i;
-        }
-    }
-    bytes.len()
+    bytes.iter().take_while(|b| **b != b'\n').count()
 }
 
-pub fn code_length(line: &[u8]) -> usize
-    ensures value { result ≡ code_length line.now }
+fn code_length(line: &[u8]) -> usize
+    ensures value { result ≡ position_or_len (λ b. b == 35) line.now }
     ensures most { result ≤ length line.now }
 {
-    for (i, b) in line.iter().enumerate() {
-        if *b == b'#' {
-            return i;
-        }
-    }
-    line.len()
+    line.iter().take_while(|b| **b != b'#').count()
 }
 
 /// What stands before the comment.
@@ -84,15 +74,11 @@ pub fn after_line(text: &[u8], at: usize, count: usize) -> usize
     }
 }
 
-pub fn run_length(bytes: &[u8]) -> usize
-    ensures { result ≡ run_length bytes.now }
+fn run_length(bytes: &[u8]) -> usize
+    ensures value { result ≡ prefix_len words.is_joining bytes.now }
+    ensures most { result ≤ length bytes.now }
 {
-    for (i, b) in bytes.iter().enumerate() {
-        if !is_joining(*b) {
-            return i;
-        }
-    }
-    bytes.len()
+    bytes.iter().take_while(|b| is_joining(**b)).count()
 }
 
 pub fn word_length(bytes: &[u8]) -> usize

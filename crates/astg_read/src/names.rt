@@ -125,12 +125,7 @@ fn name_length(word: &[u8]) -> usize
     ensures value { result ≡ prefix_len forms.is_in_name word.now }
     ensures most { result ≤ length word.now }
 {
-    for (i, c) in word.iter().enumerate() {
-        if !is_in_name(*c) {
-            return i;
-        }
-    }
-    word.len()
+    word.iter().take_while(|c| is_in_name(**c)).count()
 }
 
 /// The parts of a transition word, where it is one.

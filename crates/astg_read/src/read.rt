@@ -24,13 +24,7 @@ fn line_ends(text: &[u8]) -> u32
     ensures value { result ≡ all_lines.line_ends text.now }
     ensures most { result ≤ length text.now }
 {
-    let mut count = 0;
-    for b in text {
-        if *b == b'\n' {
-            count += 1;
-        }
-    }
-    count
+    text.iter().filter(|b| **b == b'\n').count() as u32
 }
 
 fn missing(reader: &Reader<'_>) -> Rule

@@ -1,9 +1,9 @@
 -- Bytes that are written word by word are read so.
-use Rattle.std.proofs.Common.{◌≡◌, ◌+◌, ◌==◌, ◌&&◌, ◌||◌, ℕ, List, [], ◌∷◌, ◌++◌, Bool, true, false, cond, not, map, refl, sym, ap, ◌∙◌, append_assoc, append-nil, inl, inr}
+use Rattle.std.proofs.Common.{◌≡◌, ◌+◌, ◌==◌, ◌&&◌, ◌||◌, ℕ, List, [], ◌∷◌, ◌++◌, Bool, true, false, cond, not, map, refl, sym, ap, ◌∙◌, append_assoc, append-nil, inl, inr, suc, take, arith}
 use Rattle.std.proofs.lemmas.Bool.{and_parts, and_from, cases_Bool, true≢false, not-true}
 use Rattle.std.proofs.lemmas.List.{map-append}
 use Rattle.std.proofs.lemmas.List.Folds.{list_all-append}
-use Rattle.std.specs.List.{list_all}
+use Rattle.std.specs.List.{list_all, position_or_len}
 use Rattle.std.specs.Prelude.{codes}
 use Rattle.astg_lex.specs.Lines.{lines_of, with_byte, code_of, may_stand, has_bad_byte}
 use Rattle.astg_lex.specs.Words.{WordAt, words_at, words_of, longer, is_blank, is_single, is_joining, begins_joining}
@@ -153,7 +153,10 @@ code-clean (b ∷ bs) h =
     let p = and_parts (is_clean b) (list_all is_clean bs) h in
     let q = and_parts (may_stand b) (not (b == 35) && not (b == 10)) p.0 in
     let r = and_parts (not (b == 35)) (not (b == 10)) q.1 in
-    ap (λ s. cond s [] (b ∷ code_of bs)) (not-true (b == 35) r.0) ∙ ap (λ l. b ∷ l) (code-clean bs p.1)
+    let n = position_or_len (λ c. c == 35) bs in
+    let next : 1 + n ≡ suc n = omega arith in
+    ap (λ s. take (cond (not s) (1 + n) 0) (b ∷ bs)) (not-true (b == 35) r.0)
+    ∙ ap (λ k. take k (b ∷ bs)) next ∙ ap (λ l. b ∷ l) (code-clean bs p.1)
 
 stand-clean : (bytes : List ℕ) → list_all is_clean bytes ≡ true → list_all may_stand bytes ≡ true
 stand-clean [] h = refl
