@@ -129,28 +129,6 @@ module _ (n : NetLists) (net : IsNet n) where
     | inr same ↦ omega (arith, same.0)
   ]
 
-  -- the arcs of p are done where the next arc is of another place
-  pub place_ends : (p at : ℕ) (l : Layout) → IsFillingPlace n p at l → (at < length n.arcs → (net_arc_at n.arcs at).place ≡ p → ⊥) → IsFilled n (p + 1) (p + 1) at l
-  place_ends p at l filling other =
-      let f = filling.filled in
-      record {
-        arena = f.arena;
-        places = f.places;
-        trans = f.trans;
-        tokens = f.tokens;
-        live = f.live;
-        removals = f.removals;
-        weights = f.weights;
-        within = f.within;
-        later = λ j low h.
-            let here : at < length n.arcs = omega arith in
-            let above : p < (net_arc_at n.arcs at).place = elim (cases_eq (net_arc_at n.arcs at).place p) [ inl e ↦ absurd (other here e) | inr ne ↦ omega (arith, f.later at (omega arith) here) ] in
-            elim (cases_eq at j) [ inl e ↦ omega (arith, ap (λ j. (net_arc_at n.arcs j).place) e) | inr ne ↦ omega (arith, places_up at j (omega arith) h) ];
-        removals_room = f.removals_room;
-        places_room = f.places_room;
-        room = f.room;
-      }
-
   -- at the end no arc is left
   pub all_arcs : (at : ℕ) (l : Layout) → IsFilled n (length n.tokens) (length n.tokens) at l → at ≡ length n.arcs
   all_arcs at l f = elim (cases_eq at (length n.arcs)) [
