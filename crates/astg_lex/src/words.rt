@@ -18,7 +18,7 @@ pub struct Word<'a> {
 /// Adds the word in front, where there is one, and gives how many bytes were read.
 fn push_first<'a>(words: &mut Seq<Word<'a>>, code: &'a [u8], at: u32) -> Result<usize, NoMemory>
     requires some { 0 < length code.now }
-    requires short { at + length code.now < 2 ^ 32 }
+    requires bounded { at + length code.now < 2 ^ 32 }
     ensures least { IfOk result (λ n. 1 ≤ n) }
     ensures most { IfOk result (λ n. n ≤ length code.now) }
     ensures ok { IfOk result

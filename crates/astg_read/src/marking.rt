@@ -62,7 +62,7 @@ fn is_bad_marking<'a>(
     settled: &mut MarkingCheck<'a>,
     words: &[&'a [u8]],
 ) -> Result<bool, NoMemory>
-    requires small { length signals.now < 2 ^ 32 }
+    requires bounded { length signals.now < 2 ^ 32 }
     requires settled { IsSettled most (without_dummies signals.now) graph.now.places settled.old
         (markings.before_close (drop 1 (slices_view words.now))) }
     ensures bad { IfOk result
@@ -173,7 +173,7 @@ impl<'a> Marking<'a> {
         graph: &TextGraph<'_>,
         settled: &mut MarkingCheck<'a>,
     ) -> Result<bool, NoMemory>
-        requires small { length signals.now < 2 ^ 32 }
+        requires bounded { length signals.now < 2 ^ 32 }
         requires settled { IsSettled most (without_dummies signals.now) graph.now.places settled.old
             (markings.before_close (drop 1 self.now)) }
         ensures bad { IfOk result

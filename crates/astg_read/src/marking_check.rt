@@ -102,7 +102,7 @@ impl<'a> MarkingCheck<'a> {
         is_closed: bool,
         words: &[&'a [u8]],
     ) -> Result<bool, NoMemory>
-        requires small { length signals.now < 2 ^ 32 }
+        requires bounded { length signals.now < 2 ^ 32 }
         requires settled { IsSettled most (without_dummies signals.now) graph.now.places self.old
             (slices_view words.now) }
         ensures bad { IfOk result

@@ -74,7 +74,7 @@ fn edge_of(c: u8) -> Option<Edge>
 }
 
 fn value(digits: &[u8]) -> u32
-    requires few { length digits.now ≤ 9 }
+    requires bounded { length digits.now ≤ 9 }
     requires all { list_all forms.is_digit digits.now ≡ true }
     ensures value { result ≡ names.value_after 0 digits.now }
     ensures within { result < 1000000000 }

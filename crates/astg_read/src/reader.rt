@@ -120,7 +120,7 @@ impl<'a> Reader<'a> {
         source: &'a [u8],
         words: &[Word<'a>],
     ) -> Result<(), LineError>
-        requires few { length self.old.signals < 2 ^ 32 }
+        requires bounded { length self.old.signals < 2 ^ 32 }
         requires nodes { begins_with_dot source.now ≡ false }
         ensures { Says most (said_of self.old) (source.now ∷ texts words.now) result
             (said_of self.new) }
@@ -148,7 +148,7 @@ impl<'a> Reader<'a> {
 
     /// Takes `.marking`.
     fn take_marking(&mut self, most: u32, words: &[Word<'a>]) -> Result<(), LineError>
-        requires few { length self.old.signals < 2 ^ 32 }
+        requires bounded { length self.old.signals < 2 ^ 32 }
         ensures { Says most (said_of self.old) (codes ".marking" ∷ texts words.now) result
             (said_of self.new) }
     {
@@ -241,7 +241,7 @@ impl<'a> Reader<'a> {
 
     /// Takes a line inside a marking.
     fn take_in_marking(&mut self, limits: &Limits, words: &[Word<'a>]) -> Result<(), LineError>
-        requires small { length self.old.signals < 2 ^ 32 }
+        requires bounded { length self.old.signals < 2 ^ 32 }
         requires faultless { IsFaultless limits.now (said_of self.old) }
         requires inside { is_unfinished (said_of self.old).marking ≡ true }
         requires settled { IsSettledIn limits.now.weight self.old }
@@ -272,7 +272,7 @@ impl<'a> Reader<'a> {
         first: &'a [u8],
         rest: &[Word<'a>],
     ) -> Result<(), LineError>
-        requires small { length self.old.signals < 2 ^ 32 }
+        requires bounded { length self.old.signals < 2 ^ 32 }
         requires outside { is_unfinished (said_of self.old).marking ≡ false }
         ensures { Takes limits.now (said_of self.old) (first.now ∷ texts rest.now) result
             (said_of self.new) }
@@ -318,7 +318,7 @@ impl<'a> Reader<'a> {
 
     /// Takes a line outside a marking.
     fn take_outside(&mut self, limits: &Limits, words: &[Word<'a>]) -> Result<(), LineError>
-        requires small { length self.old.signals < 2 ^ 32 }
+        requires bounded { length self.old.signals < 2 ^ 32 }
         requires outside { is_unfinished (said_of self.old).marking ≡ false }
         ensures { Takes limits.now (said_of self.old) (texts words.now) result (said_of self.new) }
     {
@@ -330,7 +330,7 @@ impl<'a> Reader<'a> {
 
     /// Takes the next line, or tells the rule that it breaks first.
     pub fn take_line(&mut self, limits: &Limits, words: &[Word<'a>]) -> Result<(), LineError>
-        requires small { limits.now.signals < 2 ^ 32 }
+        requires bounded { limits.now.signals < 2 ^ 32 }
         requires faultless { IsFaultless limits.now (said_of self.old) }
         requires settled { IsSettledIn limits.now.weight self.old }
         ensures takes { Takes limits.now (said_of self.old) (texts words.now) result
@@ -355,7 +355,7 @@ fn extend_marking<'a>(
     marking: &mut Marking<'a>,
     words: &[Word<'a>],
 ) -> Result<(), LineError>
-    requires small { length signals.now < 2 ^ 32 }
+    requires bounded { length signals.now < 2 ^ 32 }
     requires unfinished { list_any is_closing marking.old ≡ false }
     requires settled { IsSettled most (without_dummies signals.now) graph.now.places settled.old
         (before_close (drop 1 marking.old)) }

@@ -73,7 +73,7 @@ fn push_trans_line(
     arcs: &[NetArc],
     trans: u32,
 ) -> Result<(), NoMemory>
-    requires there { trans < length net.now.trans }
+    requires in_range { trans < length net.now.trans }
     requires within { length net.now.trans < 2 ^ 32 }
     requires places { length net.now.tokens < 2 ^ 32 }
     requires rise { IsNonDecreasingBy (λ (a : NetArc). a.trans) arcs.now }

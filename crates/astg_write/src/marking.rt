@@ -19,7 +19,7 @@ fn push_tokens(text: &mut Text, tokens: u32) -> Result<(), NoMemory>
 }
 
 fn push_entry(text: &mut Text, prefix: &[u8], tokens: &[u32], place: u32) -> Result<(), NoMemory>
-    requires there { place < length tokens.now }
+    requires in_range { place < length tokens.now }
     requires within { length tokens.now < 2 ^ 32 }
     ensures { OnOk result (text.new ≡ text.old ++ entry prefix.now tokens.now place) }
 {

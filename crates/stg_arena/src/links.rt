@@ -18,7 +18,7 @@ pub struct Link {
 
 /// The cells before and after x are next to each other. x keeps its own links.
 fn unlink(links: &mut [Link], x: u32)
-    requires here { x < length links.old }
+    requires in_range { x < length links.old }
     requires prev { prev_at links.old x < length links.old }
     requires next { next_at links.old x < length links.old }
     ensures { IsUnlinked links.old links.new x }
@@ -30,7 +30,7 @@ fn unlink(links: &mut [Link], x: u32)
 
 /// x stands between its two cells again.
 fn relink(links: &mut [Link], x: u32)
-    requires here { x < length links.old }
+    requires in_range { x < length links.old }
     requires prev { prev_at links.old x < length links.old }
     requires next { next_at links.old x < length links.old }
     ensures { IsRelinked links.old links.new x }
@@ -115,8 +115,8 @@ pub fn relink_ring(by_place: &mut Vec<Link>, by_trans: &mut Vec<Link>, end: End,
 /// A new cell stands at the end of the ring of `head`.
 pub fn push_link(links: &mut Vec<Link>, head: u32)
     requires room { vec_len links.old < vec_capacity links.old }
-    requires small { length links.old.items < 4294967295 }
-    requires here { head < length links.old.items }
+    requires bounded { length links.old.items < 4294967295 }
+    requires in_range { head < length links.old.items }
     requires prev { prev_at links.old.items head < length links.old.items }
     ensures links { IsRelinked
         (links.old.items ++ record { prev = prev_at links.old.items head; next = head } ∷ [])
@@ -133,7 +133,7 @@ pub fn push_link(links: &mut Vec<Link>, head: u32)
 /// Takes off the last cell, from its ring too.
 pub fn pop_link(links: &mut Vec<Link>)
     requires some { 0 < length links.old.items }
-    requires small { length links.old.items < 4294967295 }
+    requires bounded { length links.old.items < 4294967295 }
     requires prev { prev_at links.old.items (length links.old.items - 1) < length links.old.items }
     requires next { next_at links.old.items (length links.old.items - 1) < length links.old.items }
     ensures links { (mid : List TheLink)

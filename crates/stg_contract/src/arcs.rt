@@ -42,7 +42,7 @@ fn is_apart(editor: &Editor, take: bool, t: u32, q: u32, u: u32) -> bool
 /// How many of the numbers but t that the walk gives have no arc at the place.
 fn count_apart(editor: &Editor, take: bool, t: u32, q: u32, walk: Walk<'_>) -> u64
     requires q { IsPlace editor.now.now q }
-    requires short { length walk < 2 ^ 32 }
+    requires bounded { length walk < 2 ^ 32 }
     ensures { result ≡ counts.count_apart t (trans_round take editor.now.now q) walk.entry }
 {
     let mut count = 0;
@@ -124,7 +124,7 @@ fn arcs_at_each(editor: &Editor, places: Walk<'_>) -> u64
 fn arcs_but_round(editor: &Editor, t: u32) -> u64
     requires live { IsTrans editor.now.now t }
     requires pure { IsPureOrdinary editor.now.now t }
-    requires few { count_arcs editor.now.now ≤ PART.arcs }
+    requires bounded { count_arcs editor.now.now ≤ PART.arcs }
     ensures { result ≡ counts.arcs_kept editor.now.now t }
 {
     let before = arcs_at_each(editor, editor.takes(t));

@@ -28,7 +28,7 @@ pub fn build(alloc: Global, net: &Net) -> Result<Arena, NoMemory>
 
 /// Adds the places of the net with their arcs.
 fn push_places(arena: &mut Arena, net: &Net)
-    requires small { length net.now.trans + length net.now.tokens + length net.now.arcs < none }
+    requires bounded { length net.now.trans + length net.now.tokens + length net.now.arcs < none }
     requires empty { arena.old
         ≡ empty_arena (length net.now.trans) (length net.now.tokens) (length net.now.arcs) }
     ensures { IsFilled net.now (length net.now.tokens) (length net.now.tokens) (length net.now.arcs)

@@ -75,7 +75,7 @@ fn rename(editor: &Editor, signals: &[Signal], kept: &[u32], t: u32) -> TransNam
     requires known { has_signal_of editor.now.now.known (full_name_at editor.now.now t) ≡ true }
     requires kept { kept.now ≡ known_signals editor.now.signals editor.now.now }
     requires names { HaveNamesOf editor.now.signals kept.now signals.now }
-    requires fit { length signals.now < 2 ^ 32 }
+    requires bounded { length signals.now < 2 ^ 32 }
     ensures name { full_name_at editor.now.now t ≡ Some (full_name_in signals.now result) }
     ensures signal { result.signal < length signals.now }
 {
@@ -97,7 +97,7 @@ pub fn list_names(
         ≡ true) trans.now }
     requires kept { kept.now ≡ known_signals editor.now.signals editor.now.now }
     requires names { HaveNamesOf editor.now.signals kept.now signals.now }
-    requires fit { length signals.now < 2 ^ 32 }
+    requires bounded { length signals.now < 2 ^ 32 }
     ensures names { IfOk result
         (λ list. map (λ x. Some (full_name_in signals.now x)) list
         ≡ map (full_name_at editor.now.now) trans.now) }
@@ -158,8 +158,8 @@ fn push_place_arcs(
     q: u32,
 ) -> Result<(), NoMemory>
     requires live { IsPlace editor.now.now p }
-    requires there { All (λ t. t < length editor.now.now.trans) trans.now }
-    requires fit { length trans.now < 2 ^ 32 }
+    requires in_range { All (λ t. t < length editor.now.now.trans) trans.now }
+    requires bounded { length trans.now < 2 ^ 32 }
     ensures { OnOk result (list.new ≡ list.old ++ place_arcs editor.now.now trans.now p q) }
 {
     let count = editor.all_trans();
@@ -197,8 +197,8 @@ pub fn list_arcs(
     trans: &[u32],
 ) -> Result<Seq<NetArc>, NoMemory>
     requires live { All (λ p. IsPlace editor.now.now p) places.now }
-    requires there { All (λ t. t < length editor.now.now.trans) trans.now }
-    requires fit { length trans.now < 2 ^ 32 }
+    requires in_range { All (λ t. t < length editor.now.now.trans) trans.now }
+    requires bounded { length trans.now < 2 ^ 32 }
     requires places_fit { length places.now < 2 ^ 32 }
     ensures { IfOk result (λ list. list ≡ all_arcs editor.now.now places.now trans.now) }
 {

@@ -26,7 +26,7 @@ fn share(arena: &Arena, way: Way, x: u32, u: u32) -> u32
 fn shares(arena: &Arena, way: Way, x: u32, y: u32, u: u32) -> u32
     requires first { x < length arena.now.cells }
     requires second { y < length arena.now.cells }
-    requires fit { share_at arena.now way x u + share_at arena.now way y u < 2 ^ 32 }
+    requires bounded { share_at arena.now way x u + share_at arena.now way y u < 2 ^ 32 }
     ensures { result ≡ share_at arena.now way x u + share_at arena.now way y u }
 {
     share(arena, way, x, u) + share(arena, way, y, u)
@@ -99,7 +99,7 @@ pub fn merge_places(arena: &mut Arena, p: u32, q: u32, t: u32)
 
 /// Adds the place that stands for p and q once t is contracted.
 fn add_pair_place(arena: &mut Arena, t: u32, p: u32, q: u32)
-    requires small { t < none }
+    requires bounded { t < none }
     requires can { CanMake t ((p, q) ∷ []) arena.old }
     ensures { IsMade t ((p, q) ∷ []) arena.old arena.new }
 {
@@ -110,8 +110,8 @@ fn add_pair_place(arena: &mut Arena, t: u32, p: u32, q: u32)
 
 /// Adds the place for p and the place at the cell y, where t gives to it.
 fn add_at(arena: &mut Arena, t: u32, p: u32, y: u32)
-    requires small { t < none }
-    requires there { y < length arena.old.cells }
+    requires bounded { t < none }
+    requires in_range { y < length arena.old.cells }
     requires can { CanMake t (pairs_of_cell arena.old p y) arena.old }
     ensures { IsMade t (pairs_of_cell arena.old p y) arena.old arena.new }
 {

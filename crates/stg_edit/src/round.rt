@@ -17,7 +17,7 @@ pub fn is_weightless(arena: &Arena, x: u32) -> bool
 
 /// Removes the place at the cell, where the cell has a weight.
 fn remove_at(arena: &mut Arena, x: u32)
-    requires there { x < length arena.old.cells }
+    requires in_range { x < length arena.old.cells }
     requires inside { (cell_at arena.old.cells x).place < length arena.old.places }
     requires live { removed_at arena.old Place (cell_at arena.old.cells x).place ≡ none }
     requires room { length arena.old.removals < arena.old.rooms.removals }

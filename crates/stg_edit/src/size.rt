@@ -84,7 +84,7 @@ pub fn size_at(arena: &Arena, end: End, node: u32) -> Size
 
 /// The places from that number on, all of which are live, with their arcs.
 pub fn size_from(arena: &Arena, first: u32) -> Size
-    requires few { length arena.now.trans ≤ PART.trans }
+    requires bounded { length arena.now.trans ≤ PART.trans }
     requires in_range { first ≤ length arena.now.places }
     requires live { sizes.AreLive arena.now first }
     ensures { result ≡ sizes.size_from arena.now first }
@@ -98,7 +98,7 @@ pub fn size_from(arena: &Arena, first: u32) -> Size
 
 /// The places from which a live transition takes or to which it gives, with their arcs.
 pub fn size_round(arena: &Arena, t: u32) -> Size
-    requires few { length arena.now.trans ≤ PART.trans }
+    requires bounded { length arena.now.trans ≤ PART.trans }
     requires in_range { t < length arena.now.trans }
     requires live { removed_at arena.now Trans t ≡ none }
     ensures { result ≡ sizes.size_round arena.now t }

@@ -169,7 +169,7 @@ fn push_arcs(list: &mut Seq<NetArc>, arcs: &[NetArc], place: u32) -> Result<(), 
 }
 
 fn move_arcs(alloc: Global, arcs: &[NetArc], order: &[u32]) -> Result<Seq<NetArc>, NoMemory>
-    requires few { length order.now < 2 ^ 32 }
+    requires bounded { length order.now < 2 ^ 32 }
     requires ordered { AllPairs IsBefore arcs.now }
     ensures { IfOk result
         (λ list. list ≡ listed_below (arcs_moved arcs.now order.now) (length order.now)) }

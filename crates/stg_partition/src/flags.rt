@@ -9,7 +9,7 @@ use stg_net::{Net, NetArc, NoMemory};
 
 /// Where the flag of a leader and a signal stands; each leader has a flag for each signal.
 pub(crate) fn flag_index(size: usize, leader: u32, signal: u32) -> usize
-    requires few { size ≤ 250 }
+    requires bounded { size ≤ 250 }
     requires leader { leader < size }
     requires signal { signal < size }
     ensures at { result ≡ leader * size + signal }
@@ -22,7 +22,7 @@ fn flag_arc(net: &Net, leaders: &[u32], takers: &[Option<u32>], flags: &mut [boo
     requires place { arc.place < length takers.now }
     requires trans { arc.trans < length net.now.trans }
     requires signals { length leaders.now ≡ length net.now.signals }
-    requires few { length leaders.now ≤ 250 }
+    requires bounded { length leaders.now ≤ 250 }
     requires takers { All (λ taker. IfSome taker (λ s. s < length leaders.now)) takers.now }
     requires leaders { All (λ leader. leader < length leaders.now) leaders.now }
     requires flags { length flags.old ≡ length leaders.now * length leaders.now }
@@ -39,7 +39,7 @@ fn flag_arc(net: &Net, leaders: &[u32], takers: &[Option<u32>], flags: &mut [boo
 fn flag_arcs(net: &Net, leaders: &[u32], takers: &[Option<u32>], flags: &mut [bool])
     requires signals { length leaders.now ≡ length net.now.signals }
     requires places { length takers.now ≡ length net.now.tokens }
-    requires few { length leaders.now ≤ 250 }
+    requires bounded { length leaders.now ≤ 250 }
     requires takers { All (λ taker. IfSome taker (λ s. s < length leaders.now)) takers.now }
     requires leaders { All (λ leader. leader < length leaders.now) leaders.now }
     requires flags { length flags.old ≡ length leaders.now * length leaders.now }
@@ -59,7 +59,7 @@ pub(crate) fn flag_all(
 ) -> Result<Vec<bool>, NoMemory>
     requires found { IsJoining net.now (length net.now.arcs) found.now.leaders.items
         found.now.takers.items }
-    requires few { length net.now.signals ≤ 250 }
+    requires bounded { length net.now.signals ≤ 250 }
     ensures long { IfOk result
         (λ flags. length flags.items
         ≡ length found.now.leaders.items * length found.now.leaders.items) }

@@ -26,7 +26,7 @@ fn list_own(alloc: Global, leaders: &[u32], leader: u32) -> Result<Nums, NoMemor
 }
 
 fn knows(leaders: &[u32], flags: &[bool], leader: u32, s: u32) -> bool
-    requires few { length leaders.now ≤ 250 }
+    requires bounded { length leaders.now ≤ 250 }
     requires leader { leader < length leaders.now }
     requires signal { s < length leaders.now }
     requires flags { length flags.now ≡ length leaders.now * length leaders.now }
@@ -36,7 +36,7 @@ fn knows(leaders: &[u32], flags: &[bool], leader: u32, s: u32) -> bool
 }
 
 fn list_known(alloc: Global, leaders: &[u32], flags: &[bool], leader: u32) -> Result<Nums, NoMemory>
-    requires few { length leaders.now ≤ 250 }
+    requires bounded { length leaders.now ≤ 250 }
     requires leader { leader < length leaders.now }
     requires flags { length flags.now ≡ length leaders.now * length leaders.now }
     ensures { IfOk result (λ known. known ≡ (group_of leaders.now flags.now leader).known) }
@@ -56,7 +56,7 @@ fn make_group(
     flags: &[bool],
     leader: u32,
 ) -> Result<Group, NoMemory>
-    requires few { length leaders.now ≤ 250 }
+    requires bounded { length leaders.now ≤ 250 }
     requires leader { leader < length leaders.now }
     requires flags { length flags.now ≡ length leaders.now * length leaders.now }
     ensures { IfOk result (λ group. group ≡ group_of leaders.now flags.now leader) }
@@ -83,7 +83,7 @@ fn push_group(
     groups: &mut Seq<Group>,
 ) -> Result<(), NoMemory>
     requires signals { length leaders.now ≡ length net.now.signals }
-    requires few { length leaders.now ≤ 250 }
+    requires bounded { length leaders.now ≤ 250 }
     requires signal { s < length leaders.now }
     requires flags { length flags.now ≡ length leaders.now * length leaders.now }
     ensures { OnOk result (groups.new ≡ groups.old ++ groups_at net.now leaders.now flags.now s) }
@@ -101,7 +101,7 @@ fn list_groups(
     flags: &[bool],
 ) -> Result<Seq<Group>, NoMemory>
     requires signals { length leaders.now ≡ length net.now.signals }
-    requires few { length leaders.now ≤ 250 }
+    requires bounded { length leaders.now ≤ 250 }
     requires flags { length flags.now ≡ length leaders.now * length leaders.now }
     ensures { IfOk result
         (λ groups. groups ≡ groups_below net.now leaders.now flags.now (length leaders.now)) }

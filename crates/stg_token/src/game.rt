@@ -59,7 +59,7 @@ fn take(m: &mut Nums, t: u32, arc: NetArc)
 
 fn give(m: &mut Nums, t: u32, arc: NetArc)
     requires place { arc.place < length m.old }
-    requires fits { slice_index m.old arc.place + weight_of (arc ∷ []) true t arc.place < 2 ^ 32 }
+    requires bounded { slice_index m.old arc.place + weight_of (arc ∷ []) true t arc.place < 2 ^ 32 }
     ensures { m.new ≡ with_given t arc m.old }
 {
     if connects_trans(arc, t, true) {
@@ -82,7 +82,7 @@ fn take_all(arcs: &[NetArc], m: &mut Nums, t: u32)
 
 fn give_all(arcs: &[NetArc], m: &mut Nums, t: u32)
     requires places { All (λ (a : NetArc). a.place < length m.old) arcs.now }
-    requires fits { (p : ℕ) → slice_index m.old p + weight_of arcs.now true t p < 2 ^ 32 }
+    requires bounded { (p : ℕ) → slice_index m.old p + weight_of arcs.now true t p < 2 ^ 32 }
     ensures tokens { (p : ℕ)
         → slice_index m.new p ≡ slice_index m.old p + weight_of arcs.now true t p }
     ensures kept { length m.new ≡ length m.old }
@@ -96,7 +96,7 @@ fn give_all(arcs: &[NetArc], m: &mut Nums, t: u32)
 pub fn fire(net: &Net, m: &mut Nums, t: u32)
     requires marking { length m.old ≡ length net.now.tokens }
     requires enabled { IsEnabled (graph_of net.now) (slice_index m.old) t }
-    requires fits { (p : ℕ) → fired (graph_of net.now) (slice_index m.old) t p < 2 ^ 32 }
+    requires bounded { (p : ℕ) → fired (graph_of net.now) (slice_index m.old) t p < 2 ^ 32 }
     ensures marking { (p : ℕ)
         → slice_index m.new p ≡ fired (graph_of net.now) (slice_index m.old) t p }
     ensures kept { length m.new ≡ length m.old }

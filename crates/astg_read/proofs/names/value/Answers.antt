@@ -15,7 +15,7 @@ tens (suc (suc (suc (suc (suc (suc (suc (suc zero)))))))) h = omega arith
 tens (suc (suc (suc (suc (suc (suc (suc (suc (suc n))))))))) h = absurd (omega (arith, h))
 
 pub overflow_mul-n : goal.overflow_mul-n
-overflow_mul-n c = omega (arith, c.loop-c.invariant.small, tens c.loop-c.c-index (omega (arith, c.loop-c-test.true, c.requires.few)))
+overflow_mul-n c = omega (arith, c.loop-c.invariant.small, tens c.loop-c.c-index (omega (arith, c.loop-c-test.true, c.requires.bounded)))
 
 pub overflow_add-n : goal.overflow_add-n
-overflow_add-n c = omega (arith, c.loop-c.invariant.small, tens c.loop-c.c-index (omega (arith, c.loop-c-test.true, c.requires.few)), c.type_inv.digits c.loop-c.c-index)
+overflow_add-n c = omega (arith, c.loop-c.invariant.small, tens c.loop-c.c-index (omega (arith, c.loop-c-test.true, c.requires.bounded)), c.type_inv.digits c.loop-c.c-index)

@@ -4,8 +4,8 @@ use Rattle.stg_arena.proofs.links.relink_all.Goals as goal
 pub loop-x-init : goal.loop-x-init
 loop-x-init c = relink_starts c.args.own.now c.args.other.now c.args.head
 
-pub relink-requires-clause-here : goal.relink-requires-clause-here
-relink-requires-clause-here c = (relink_safe c.args.own.now c.args.other.now c.loop-x.other c.args.head c.loop-x.x c.loop-x.invariant c.loop-x-test.true c.loop-x.auto.other c.requires.0 c.requires.1).here
+pub relink-requires-clause-in_range : goal.relink-requires-clause-in_range
+relink-requires-clause-in_range c = (relink_safe c.args.own.now c.args.other.now c.loop-x.other c.args.head c.loop-x.x c.loop-x.invariant c.loop-x-test.true c.loop-x.auto.other c.requires.0 c.requires.1).here
 
 pub relink-requires-clause-prev : goal.relink-requires-clause-prev
 relink-requires-clause-prev c = (relink_safe c.args.own.now c.args.other.now c.loop-x.other c.args.head c.loop-x.x c.loop-x.invariant c.loop-x-test.true c.loop-x.auto.other c.requires.0 c.requires.1).prev

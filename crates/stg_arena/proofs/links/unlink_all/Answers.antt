@@ -4,8 +4,8 @@ use Rattle.stg_arena.proofs.links.unlink_all.Goals as goal
 pub loop-x-init : goal.loop-x-init
 loop-x-init c = unlink_starts c.args.own.now c.args.other.now c.args.head
 
-pub unlink-requires-clause-here : goal.unlink-requires-clause-here
-unlink-requires-clause-here c = (unlink_safe c.args.own.now c.args.other.now c.loop-x.other c.args.head c.loop-x.x c.loop-x.invariant c.loop-x-test.true c.loop-x.auto.other c.requires.0 c.requires.1).here
+pub unlink-requires-clause-in_range : goal.unlink-requires-clause-in_range
+unlink-requires-clause-in_range c = (unlink_safe c.args.own.now c.args.other.now c.loop-x.other c.args.head c.loop-x.x c.loop-x.invariant c.loop-x-test.true c.loop-x.auto.other c.requires.0 c.requires.1).here
 
 pub unlink-requires-clause-prev : goal.unlink-requires-clause-prev
 unlink-requires-clause-prev c = (unlink_safe c.args.own.now c.args.other.now c.loop-x.other c.args.head c.loop-x.x c.loop-x.invariant c.loop-x-test.true c.loop-x.auto.other c.requires.0 c.requires.1).prev

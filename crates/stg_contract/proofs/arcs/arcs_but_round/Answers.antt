@@ -13,7 +13,7 @@ pub overflow_sub-result : goal.overflow_sub-result
 overflow_sub-result c =
     let g = c.args.editor.now.now in
     let before = c.arcs_at_each-before.ensures in
-    omega (arith, before, ap (arcs_at_each g) c.takes.ensures.value, c.arcs.ensures, c.requires.few, arcs_split g c.args.t c.requires.pure.pure)
+    omega (arith, before, ap (arcs_at_each g) c.takes.ensures.value, c.arcs.ensures, c.requires.bounded, arcs_split g c.args.t c.requires.pure.pure)
 
 pub overflow_sub-result-2 : goal.overflow_sub-result-2
 overflow_sub-result-2 c =
@@ -25,7 +25,7 @@ overflow_sub-result-2 c =
       c.arcs_at_each-after.ensures,
       ap (arcs_at_each g) c.gives.ensures.value,
       c.arcs.ensures,
-      c.requires.few,
+      c.requires.bounded,
       arcs_split g c.args.t c.requires.pure.pure,
     )
 
@@ -39,6 +39,6 @@ returns c =
       c.arcs_at_each-after.ensures,
       ap (arcs_at_each g) c.gives.ensures.value,
       c.arcs.ensures,
-      c.requires.few,
+      c.requires.bounded,
       arcs_split g c.args.t c.requires.pure.pure,
     )

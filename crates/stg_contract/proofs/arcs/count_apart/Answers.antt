@@ -6,4 +6,4 @@ use Rattle.stg_contract.proofs.arcs.count_apart.Goals as goal
 
 pub overflow_add-count : goal.overflow_add-count
 overflow_add-count c =
-    omega (arith, c.loop-u.invariant, length-filter_less (is_apart c.args.t (trans_round c.args.take c.args.editor.now.now c.args.q)) c.args.walk, c.requires.short)
+    omega (arith, c.loop-u.invariant, length-filter_less (is_apart c.args.t (trans_round c.args.take c.args.editor.now.now c.args.q)) c.args.walk, c.requires.bounded)

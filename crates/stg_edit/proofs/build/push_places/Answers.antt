@@ -6,7 +6,7 @@ use Rattle.stg_edit.proofs.Filling.{starts, place_starts, all_arcs}
 use Rattle.stg_edit.proofs.build.push_places.Goals as goal
 
 pub loop-place-init : goal.loop-place-init
-loop-place-init c = starts c.args.net.now c.args.arena.now c.requires.small c.requires.empty
+loop-place-init c = starts c.args.net.now c.args.arena.now c.requires.bounded c.requires.empty
 
 pub push_place_arcs-at-requires : goal.push_place_arcs-at-requires
 push_place_arcs-at-requires c =

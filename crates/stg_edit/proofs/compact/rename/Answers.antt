@@ -10,7 +10,7 @@ pub overflow_cast-signal : goal.overflow_cast-signal
 overflow_cast-signal c =
     let e = c.args.editor.now in
     let is = subst (λ (xs : List ℕ). HaveNamesOf e.signals xs c.args.signals.now) c.requires.kept c.requires.names in
-    omega (arith, c.renumber-signal.ensures.value, ap (λ xs. new_number xs c.name-name.result.signal) c.requires.kept, new_there e.signals e.now c.args.signals.now c.name-name.result c.args.t is c.name-name.ensures.signal c.name-name.ensures.name c.requires.known, c.requires.fit)
+    omega (arith, c.renumber-signal.ensures.value, ap (λ xs. new_number xs c.name-name.result.signal) c.requires.kept, new_there e.signals e.now c.args.signals.now c.name-name.result c.args.t is c.name-name.ensures.signal c.name-name.ensures.name c.requires.known, c.requires.bounded)
 
 pub returns-clause-name : goal.returns-clause-name
 returns-clause-name c =

@@ -10,11 +10,11 @@ loop-u-init c =
     let l = c.args.arena.now in
     merge_starts l c.args.p c.args.q c.args.t c.least-u.result c.first-x.result c.first-y.result c.requires.arena.laid c.requires.arena.timed c.requires c.first-x.ensures.first c.first-y.ensures.first c.least-u.ensures
 
-pub shares-take-requires-clause-fit : goal.shares-take-requires-clause-fit
-shares-take-requires-clause-fit c = (shares_here c.args.arena.now c.loop-u.arena c.args.p c.args.q c.args.t c.loop-u.u c.loop-u.x c.loop-u.y Take c.loop-u.invariant.arena.laid c.loop-u.invariant.arena.timed c.requires c.loop-u.invariant c.loop-u-test.true).1
+pub shares-take-requires-clause-bounded : goal.shares-take-requires-clause-bounded
+shares-take-requires-clause-bounded c = (shares_here c.args.arena.now c.loop-u.arena c.args.p c.args.q c.args.t c.loop-u.u c.loop-u.x c.loop-u.y Take c.loop-u.invariant.arena.laid c.loop-u.invariant.arena.timed c.requires c.loop-u.invariant c.loop-u-test.true).1
 
-pub shares-give-requires-clause-fit : goal.shares-give-requires-clause-fit
-shares-give-requires-clause-fit c = (shares_here c.args.arena.now c.loop-u.arena c.args.p c.args.q c.args.t c.loop-u.u c.loop-u.x c.loop-u.y Give c.loop-u.invariant.arena.laid c.loop-u.invariant.arena.timed c.requires c.loop-u.invariant c.loop-u-test.true).1
+pub shares-give-requires-clause-bounded : goal.shares-give-requires-clause-bounded
+shares-give-requires-clause-bounded c = (shares_here c.args.arena.now c.loop-u.arena c.args.p c.args.q c.args.t c.loop-u.u c.loop-u.x c.loop-u.y Give c.loop-u.invariant.arena.laid c.loop-u.invariant.arena.timed c.requires c.loop-u.invariant c.loop-u-test.true).1
 
 pub put-requires : goal.put-requires
 put-requires c =

@@ -8,8 +8,8 @@ use Rattle.stg_edit.proofs.round.remove_round.Goals as goal
 pub loop-x-init : goal.loop-x-init
 loop-x-init c = removing_starts c.args.t c.args.arena.now c.first-x.result c.requires.arena.laid c.requires.arena.timed c.requires.in_range c.requires.live c.first-x.ensures.first
 
-pub remove_at-requires-clause-there : goal.remove_at-requires-clause-there
-remove_at-requires-clause-there c =
+pub remove_at-requires-clause-in_range : goal.remove_at-requires-clause-in_range
+remove_at-requires-clause-in_range c =
     let range : c.args.t < length c.loop-x.arena.trans = omega (arith, (c.loop-x.invariant.so_far.fewer.later 0).trans, c.requires.in_range) in
     (at_place c.loop-x.arena c.args.t c.loop-x.x c.loop-x.invariant.so_far.arena.laid c.loop-x.invariant.so_far.arena.timed range c.loop-x.invariant.walking c.loop-x-test.true).there
 

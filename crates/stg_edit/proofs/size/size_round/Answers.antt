@@ -25,16 +25,16 @@ size_at-requires-clause-live c =
 pub plus-size-requires-clause-places : goal.plus-size-requires-clause-places
 plus-size-requires-clause-places c =
     let l = c.args.arena.now in
-    let few = sizing_few c.args.t l c.first-x.ensures.arena.laid c.first-x.ensures.arena.timed c.requires.in_range c.requires.live c.loop-x.x c.loop-x.size c.loop-x.invariant c.loop-x-test.true c.requires.few in
+    let few = sizing_few c.args.t l c.first-x.ensures.arena.laid c.first-x.ensures.arena.timed c.requires.in_range c.requires.live c.loop-x.x c.loop-x.size c.loop-x.invariant c.loop-x-test.true c.requires.bounded in
     let here = at_place l c.args.t c.loop-x.x c.first-x.ensures.arena.laid c.first-x.ensures.arena.timed c.requires.in_range c.loop-x.invariant.walking c.loop-x-test.true in
     omega (arith, few.0, here.inside, c.first-x.ensures.arena.laid.sizes Place, ap (λ (s : Size). s.places) c.size_at.ensures)
 
 pub plus-size-requires-clause-arcs : goal.plus-size-requires-clause-arcs
 plus-size-requires-clause-arcs c =
     let l = c.args.arena.now in
-    let few = sizing_few c.args.t l c.first-x.ensures.arena.laid c.first-x.ensures.arena.timed c.requires.in_range c.requires.live c.loop-x.x c.loop-x.size c.loop-x.invariant c.loop-x-test.true c.requires.few in
+    let few = sizing_few c.args.t l c.first-x.ensures.arena.laid c.first-x.ensures.arena.timed c.requires.in_range c.requires.live c.loop-x.x c.loop-x.size c.loop-x.invariant c.loop-x-test.true c.requires.bounded in
     let here = at_place l c.args.t c.loop-x.x c.first-x.ensures.arena.laid c.first-x.ensures.arena.timed c.requires.in_range c.loop-x.invariant.walking c.loop-x-test.true in
-    omega (arith, few.1, here.inside, c.first-x.ensures.arena.laid.sizes Place, ap (λ (s : Size). s.arcs) c.size_at.ensures, arcs_few l c.far.result c.requires.few)
+    omega (arith, few.1, here.inside, c.first-x.ensures.arena.laid.sizes Place, ap (λ (s : Size). s.arcs) c.size_at.ensures, arcs_few l c.far.result c.requires.bounded)
 
 pub loop-x-smaller : goal.loop-x-smaller
 loop-x-smaller c =

@@ -31,8 +31,8 @@ pick_tokens-requires c =
 pub move_arcs-requires-clause-ordered : goal.move_arcs-requires-clause-ordered
 move_arcs-requires-clause-ordered c = subst (AllPairs IsBefore) (sym c.arcs.ensures.arcs) c.arcs.ensures.net.ordered
 
-pub move_arcs-requires-clause-few : goal.move_arcs-requires-clause-few
-move_arcs-requires-clause-few c =
+pub move_arcs-requires-clause-bounded : goal.move_arcs-requires-clause-bounded
+move_arcs-requires-clause-bounded c =
     let n = c.args.net.now in
     let same : c.as_slice-4.result.now ≡ place_order n = grind arith in
     omega (arith, ap length same, length-order (length n.tokens) (place_order n) (place_order-IsOrder n), c.signals.ensures.net.places_fit)

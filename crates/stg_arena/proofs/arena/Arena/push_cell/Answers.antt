@@ -9,8 +9,8 @@ use Rattle.stg_arena.proofs.LayoutAppend.{laid_cell, timed_push, cell_more}
 use Rattle.stg_arena.proofs.LinksOneSide.{pushed_cell, push_side, push_safe, cell_inside, cell_live}
 use Rattle.stg_arena.proofs.arena.Arena.push_cell.Goals as goal
 
-pub push_link-requires-clause-here : goal.push_link-requires-clause-here
-push_link-requires-clause-here c =
+pub push_link-requires-clause-in_range : goal.push_link-requires-clause-in_range
+push_link-requires-clause-in_range c =
     let l = layout c.self.inside in
     let A : Layout → Type 0 = λ l. IsCellAllowed l c.args.trans in
     let ok : IsCellAllowed l c.args.trans = subst A (sym c.self.view_is) c.requires in
@@ -27,8 +27,8 @@ push_link-requires-clause-prev c =
     let head : c.index.result.now.head ≡ head_of l Place (length l.places - 1) = ap (λ s. s.head) (c.index.ensures ∙ get_or_default l.places (c.len.result - 1) c.index.result.now no_spot (omega (arith, ok.place))) ∙ ap (head_of l Place) last in
     omega (arith, ap (prev_at c.self.inside.by_place.items) head, (push_safe l Place (length l.places - 1) c.self.inside.by_place.items c.self.invariant.arena.laid c.self.invariant.arena.timed c.self.invariant.by_place (omega (arith, ok.place)) ok.live_place).prev)
 
-pub push_link-requires-2-clause-here : goal.push_link-requires-2-clause-here
-push_link-requires-2-clause-here c =
+pub push_link-requires-2-clause-in_range : goal.push_link-requires-2-clause-in_range
+push_link-requires-2-clause-in_range c =
     let l = layout c.self.inside in
     let A : Layout → Type 0 = λ l. IsCellAllowed l c.args.trans in
     let ok : IsCellAllowed l c.args.trans = subst A (sym c.self.view_is) c.requires in

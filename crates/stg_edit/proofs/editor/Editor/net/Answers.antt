@@ -37,8 +37,8 @@ list_names-requires-clause-names c =
     sym (c.as_slice-3.ensures ∙ c.in_ok-signals.ensures ∙ (λ i. map (net_signal (c.signals.ensures.value i) (c.as_slice.ensures i)) (kept i))) in
     subst (HaveNamesOf e.signals c.as_slice-4.result.now) same (names_of_kept e.signals c.args.own.now c.as_slice-4.result.now)
 
-pub list_names-requires-clause-fit : goal.list_names-requires-clause-fit
-list_names-requires-clause-fit c =
+pub list_names-requires-clause-bounded : goal.list_names-requires-clause-bounded
+list_names-requires-clause-bounded c =
     let e = c.args.self.now in
     let kept : c.as_slice-2.result.now ≡ known_signals e.signals e.now = c.as_slice-2.ensures ∙ c.in_ok-kept.ensures in
     let same : map (net_signal e.signals c.args.own.now) (known_signals e.signals e.now) ≡ c.as_slice-3.result.now =
@@ -55,13 +55,13 @@ list_arcs-requires-clause-live c =
     let g = c.args.self.now.now in
     all_of (λ p. IsPlace g p) c.as_slice-7.result.now (live_places g) (c.as_slice-7.ensures ∙ c.in_ok-places.ensures) (places_live g)
 
-pub list_arcs-requires-clause-there : goal.list_arcs-requires-clause-there
-list_arcs-requires-clause-there c =
+pub list_arcs-requires-clause-in_range : goal.list_arcs-requires-clause-in_range
+list_arcs-requires-clause-in_range c =
     let g = c.args.self.now.now in
     all_of (λ t. t < length g.trans) c.as_slice-8.result.now (live_trans g) (c.as_slice-8.ensures ∙ c.in_ok-trans.ensures) (trans_below g)
 
-pub list_arcs-requires-clause-fit : goal.list_arcs-requires-clause-fit
-list_arcs-requires-clause-fit c =
+pub list_arcs-requires-clause-bounded : goal.list_arcs-requires-clause-bounded
+list_arcs-requires-clause-bounded c =
     let g = c.args.self.now.now in
     subst (λ (xs : List ℕ). length xs < 2 ^ 32) (sym (c.as_slice-8.ensures ∙ c.in_ok-trans.ensures)) (few_trans g c.signals.ensures.draft.trans_fit)
 

@@ -74,8 +74,8 @@ size_round-removed-requires-clause-live c =
     let may = may_replace (base c.self.inside) c.args.t (c.self.inside.edit_room - length c.self.inside.starts.items) c.self.inside.arena c.args.self.now (ap (λ v. v.now) c.self.view_is) (ap (λ v. v.spare) c.self.view_is) c.self.invariant.arena.timed c.self.invariant.arena.laid c.self.invariant.roomy c.requires.live c.requires.places c.requires.arcs c.requires.sums in
     may.live
 
-pub size_from-made-requires-clause-few : goal.size_from-made-requires-clause-few
-size_from-made-requires-clause-few c =
+pub size_from-made-requires-clause-bounded : goal.size_from-made-requires-clause-bounded
+size_from-made-requires-clause-bounded c =
     let may = may_replace (base c.self.inside) c.args.t (c.self.inside.edit_room - length c.self.inside.starts.items) c.self.inside.arena c.args.self.now (ap (λ v. v.now) c.self.view_is) (ap (λ v. v.spare) c.self.view_is) c.self.invariant.arena.timed c.self.invariant.arena.laid c.self.invariant.roomy c.requires.live c.requires.places c.requires.arcs c.requires.sums in
     let r = is_replaced (base c.self.inside) c.args.t c.self.inside.arena c.add_pair_places.new.arena c.remove_round.new.arena c.remove.new.self c.self.invariant.arena.timed c.self.invariant.arena.laid c.add_pair_places.ensures.arena.timed c.remove_round.ensures.arena.timed c.remove.ensures.arena.timed c.add_pair_places.ensures.arena.laid may c.add_pair_places.ensures c.remove_round.ensures c.remove.ensures.removed in
     omega (arith, r.later.trans, c.self.invariant.names_long, c.self.invariant.named.trans_few)
