@@ -34,7 +34,7 @@ fn holds(m: &Nums, t: u32, arc: NetArc) -> bool
 
 /// Whether the transition of that number can fire at the marking.
 pub fn enabled(net: &Net, m: &Nums, t: u32) -> bool
-    requires trans { t < length net.now.trans }
+    requires in_range { t < length net.now.trans }
     requires marking { length m.now ≡ length net.now.tokens }
     ensures { IsTrue result ↔ IsEnabled (graph_of net.now) (slice_index m.now) t }
 {
@@ -47,7 +47,7 @@ pub fn enabled(net: &Net, m: &Nums, t: u32) -> bool
 }
 
 fn take(m: &mut Nums, t: u32, arc: NetArc)
-    requires place { arc.place < length m.old }
+    requires in_range { arc.place < length m.old }
     requires held { is_held m.old t arc ≡ true }
     ensures { m.new ≡ with_taken t arc m.old }
 {
@@ -58,7 +58,7 @@ fn take(m: &mut Nums, t: u32, arc: NetArc)
 }
 
 fn give(m: &mut Nums, t: u32, arc: NetArc)
-    requires place { arc.place < length m.old }
+    requires in_range { arc.place < length m.old }
     requires bounded { slice_index m.old arc.place + weight_of (arc ∷ []) true t arc.place < 2 ^ 32 }
     ensures { m.new ≡ with_given t arc m.old }
 {

@@ -68,7 +68,7 @@ fn is_small(m: &Nums) -> bool
 
 fn fire_small(net: &Net, m: &mut Nums, t: u32) -> bool
     requires within { IsWithin Limits.SPEC net.now }
-    requires trans { t < length net.now.trans }
+    requires in_range { t < length net.now.trans }
     ensures { length m.new ≡ length m.old }
 {
     let places = net.tokens().len();

@@ -22,4 +22,4 @@ pub returns : goal.returns
 returns c =
     let P : List NetArc → Type 0 = λ arcs. (i : ℕ) (d : NetArc) → i < length arcs → is_held c.args.m.now c.args.t (get_or arcs i d) ≡ true in
     let held = subst P c.arcs-arc-items.ensures.arcs (λ i d inside. c.loop-arc.invariant i d (omega (arith, inside, c.loop-arc-test.false))) in
-    (λ f. held_enabled c.args.net.now c.args.m.now c.args.t c.arcs-arc-items.ensures.net c.requires.trans held, λ e. refl)
+    (λ f. held_enabled c.args.net.now c.args.m.now c.args.t c.arcs-arc-items.ensures.net c.requires.in_range held, λ e. refl)
