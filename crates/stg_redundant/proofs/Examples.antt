@@ -61,10 +61,10 @@ narrow_chain (suc (suc (suc (suc t)))) (suc (suc zero)) past = (refl, refl)
 narrow_chain (suc (suc (suc (suc t)))) (suc (suc (suc zero))) past = (refl, refl)
 narrow_chain (suc (suc (suc (suc t)))) (suc (suc (suc (suc p)))) past = (refl, refl)
 
-long_way : HasPath (all_links chain) 1 0 3 0
+long_way : HasPath chain 1 0 3 0 0
 long_way = record {
   path = record { place = 0; giver = 0; taker = 1; tokens = 0 } ∷ record { place = 2; giver = 1; taker = 2; tokens = 0 } ∷ record { place = 3; giver = 2; taker = 3; tokens = 0 } ∷ [];
-  leads = ((0, omega arith, refl), (λ e. omega (arith, e)), refl, ((2, omega arith, refl), (λ e. omega (arith, e)), refl, ((3, omega arith, refl), (λ e. omega (arith, e)), refl, refl)));
+  leads = (refl, (λ e. omega (arith, e)), refl, (refl, (λ e. omega (arith, e)), refl, (refl, (λ e. omega (arith, e)), refl, refl)));
   few = omega arith;
 }
 

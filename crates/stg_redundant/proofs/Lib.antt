@@ -1,5 +1,6 @@
 pub mod RuleTests
 pub mod FirstSame
-pub mod PathSums
+pub mod Searching
 pub mod LinkPaths
+pub mod LinkTables
 mod Examples

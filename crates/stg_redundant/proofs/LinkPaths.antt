@@ -1,20 +1,19 @@
 -- Links are the places with one giver and one taker, and paths along them are chains.
-use Rattle.std.proofs.Common.{◌≡◌, ◌≢◌, ◌<◌, ◌≤◌, ◌+◌, ◌==◌, ℕ, zero, suc, false, cond, List, [], ◌∷◌, length, map, get_or, sum_by, is_some, Contains, All, Option, Some, None, eq-eqb, refl, sym, ap, ◌∙◌, subst, inl, inr, arith}
+use Rattle.std.proofs.Common.{◌≡◌, ◌≢◌, ◌<◌, ◌≤◌, ◌+◌, ◌==◌, ℕ, zero, suc, false, cond, List, [], ◌∷◌, length, map, sum_by, is_some, All, Option, Some, None, eq-eqb, refl, sym, ap, ◌∙◌, subst, inl, inr, arith}
 use Rattle.std.proofs.lemmas.Bool.{cases_eq, cases_lt, cases_Bool, eqb-true, ne_eqb, lt-ltb, le-ltb, false≢true}
-use Rattle.std.proofs.lemmas.List.Elements.{All-nil, All-cons, All-head, All-tail, All-append, Contains-append_left, Contains-append_right}
+use Rattle.std.proofs.lemmas.List.Elements.{All-nil, All-cons, All-head, All-tail}
 use Rattle.std.proofs.lemmas.List.Sums.{sum_by-cons}
-use Rattle.stg_net.specs.Graph.{Graph, Place, place_at, given_by, tokens_at, takes, gives}
+use Rattle.stg_net.specs.Graph.{Graph, IsTrans, Place, place_at, given_by, tokens_at, takes, gives}
 use Rattle.stg_edit.specs.Walks.{taking_trans, giving_trans}
 use Rattle.stg_arena.specs.WalkItems.{weighted, weighted_from}
-use Rattle.stg_edit.specs.Drafts.{IsWeightlessPastLast}
+use Rattle.stg_edit.specs.Drafts.{IsWeightlessPastLast, IsWeightlessWhereRemoved}
 use Rattle.stg_edit.proofs.Packing.{weighted_below}
 use Rattle.stg_laws.specs.RedundantPlaces.{IsLink, IsChain, IsShortcut}
 use Rattle.stg_contract.specs.inner.Weights.{weight_in}
-use Rattle.stg_contract.proofs.WeightLists.{weight_in-weighted}
-use Rattle.stg_contract.proofs.DummyTests.{taken_below}
+use Rattle.stg_contract.proofs.WeightLists.{weight_in-weighted, live_where}
 use Rattle.stg_redundant.specs.declared.chains.Link.{Link}
 use Rattle.stg_redundant.specs.inner.Tests.{sole_of}
-use Rattle.stg_redundant.specs.inner.Chains.{link_of, link_at, link_list, links_below, all_links, IsPath, tokens_on, HasPath, AreWithin}
+use Rattle.stg_redundant.specs.inner.Chains.{link_of, link_at, IsPath, tokens_on, HasPath}
 
 -- a alone has a weight, which is 1
 record IsSole (n : ℕ) (w : ℕ → ℕ) (a : ℕ) : Type 0 where
@@ -23,7 +22,7 @@ record IsSole (n : ℕ) (w : ℕ → ℕ) (a : ℕ) : Type 0 where
   pub alone : (t : ℕ) → t < n → t ≢ a → w t ≡ 0
 
 -- nothing is not something
-none_some : {X : Type 0} (x : X) → None ≡ Some x → ⊥
+pub none_some : {X : Type 0} (x : X) → None ≡ Some x → ⊥
 none_some x e = absurd (cc)
 
 -- the one number of a list with weight 1 is alone
@@ -133,66 +132,54 @@ no_link g p gone = go (place_at g p) refl gone
     go None e h = ap (λ xs. link_of g p (sole_of xs) (sole_of (taking_trans g p))) (none_from (λ t. gives g t p) (length g.trans) 0 (λ t l r. ap (given_by t) e))
     go (Some x) e h = absurd (false≢true (sym h))
 
--- the links of the list are those of the graph
-link_list_is : (g : Graph) (n : ℕ)
-    → All (λ (l : Link). link_at g l.place ≡ Some l) (link_list (link_at g n))
-link_list_is g n = go (link_at g n) refl
+-- a link stands at its place
+pub link_place : (g : Graph) (n : ℕ) (l : Link) → link_at g n ≡ Some l → l.place ≡ n
+link_place g n l e = go (sole_of (giving_trans g n)) (sole_of (taking_trans g n)) e
   where
-    same : (l : Link) → link_at g n ≡ Some l → l.place ≡ n
-    same l e = go' (sole_of (giving_trans g n)) (sole_of (taking_trans g n)) e
-      where
-        go' : (x y : Option ℕ) → link_of g n x y ≡ Some l → l.place ≡ n
-        go' (Some a) (Some b) e = let z : record { place = n; giver = a; taker = b; tokens = tokens_at g n } ≡ l = cc in sym (ap (λ (l : Link). l.place) z)
-        go' (Some a) None e = absurd (none_some l e)
-        go' None o e = absurd (none_some l e)
+    go : (x y : Option ℕ) → link_of g n x y ≡ Some l → l.place ≡ n
+    go (Some a) (Some b) e = let z : record { place = n; giver = a; taker = b; tokens = tokens_at g n } ≡ l = cc in sym (ap (λ (l : Link). l.place) z)
+    go (Some a) None e = absurd (none_some l e)
+    go None o e = absurd (none_some l e)
 
-    go : (o : Option Link) → link_at g n ≡ o → All (λ (l : Link). link_at g l.place ≡ Some l) (link_list o)
-    go None e = All-nil (λ (l : Link). link_at g l.place ≡ Some l)
-    go (Some l) e = All-cons (λ (l : Link). link_at g l.place ≡ Some l) l [] (ap (link_at g) (same l e) ∙ e) (All-nil (λ (l : Link). link_at g l.place ≡ Some l))
+-- one link stands at a place
+pub one_link : (g : Graph) (n : ℕ) (k l : Link) → link_at g n ≡ Some k → link_at g n ≡ Some l → k ≡ l
+one_link g n k l e f = let z : Some k ≡ Some l = sym e ∙ f in cc
 
--- each link of the list is the one at its place
-links_are : (g : Graph) (n : ℕ) → All (λ (l : Link). link_at g l.place ≡ Some l) (links_below g n)
-links_are g zero = All-nil (λ (l : Link). link_at g l.place ≡ Some l)
-links_are g (suc n) = All-append (λ (l : Link). link_at g l.place ≡ Some l) (links_below g n) (link_list (link_at g n)) (links_are g n) (link_list_is g n)
-
--- and the link at each place is in the list
-links_have : (g : Graph) (n p : ℕ) (l : Link) → p < n → link_at g p ≡ Some l
-    → Contains (links_below g n) l
-links_have g zero p l low e = absurd (omega (arith, low))
-links_have g (suc n) p l low e = elim (cases_eq p n) [
-  | inl s ↦ Contains-append_right (links_below g n) (link_list (link_at g n)) l (subst (λ o. Contains (link_list o) l) (sym (ap (link_at g) (sym s) ∙ e)) (0, omega arith, refl))
-  | inr o ↦ Contains-append_left (links_below g n) (link_list (link_at g n)) l (links_have g n p l (elim (cases_lt p n) [ inl k ↦ k | inr k ↦ absurd (o (omega (arith, k, low))) ]) e)
-]
-
--- an element of the links
-link_in : (g : Graph) (l : Link) → IsWeightlessPastLast g → Contains (all_links g) l
+-- a link at its own place is one of the graph
+link_in : (g : Graph) (l : Link) → IsWeightlessPastLast g → link_at g l.place ≡ Some l
     → IsLinkAt g l.place l
-link_in g l narrow c = link_is g l.place l narrow (subst (λ (x : Link). link_at g x.place ≡ Some x) c.2 (links_are g (length g.places) c.0 l c.1))
+link_in g l narrow e = link_is g l.place l narrow e
 
--- both ends of each link are transitions of the graph
-pub within : (g : Graph) → IsWeightlessPastLast g → AreWithin (length g.trans) (all_links g)
-within g narrow k d low =
-    let l = get_or (all_links g) k d in
-    let at = link_is g l.place l narrow (links_are g (length g.places) k d low) in
-    (at.giver_below, at.taker_below)
+-- both ends of a link are live
+pub giver_live : (g : Graph) (n : ℕ) (l : Link) → IsWeightlessPastLast g → IsWeightlessWhereRemoved g
+    → link_at g n ≡ Some l → IsTrans g l.giver
+giver_live g n l narrow gone e =
+    let at = link_is g n l narrow e in
+    live_where g l.giver (gives g l.giver n) (omega (arith, at.link.given)) (λ dead. (gone l.giver n at.giver_below dead).1)
+
+pub taker_live : (g : Graph) (n : ℕ) (l : Link) → IsWeightlessPastLast g → IsWeightlessWhereRemoved g
+    → link_at g n ≡ Some l → IsTrans g l.taker
+taker_live g n l narrow gone e =
+    let at = link_is g n l narrow e in
+    live_where g l.taker (takes g l.taker n) (omega (arith, at.link.taken)) (λ dead. (gone l.taker n at.taker_below dead).0)
 
 -- the places of a path are a chain
 chain_from : (g : Graph) (p b : ℕ) → IsWeightlessPastLast g → (path : List Link) (a : ℕ)
-    → IsPath (all_links g) p a b path → IsChain g a b (map (λ (l : Link). l.place) path)
+    → IsPath g p a b path → IsChain g a b (map (λ (l : Link). l.place) path)
 chain_from g p b narrow [] a e = e
 chain_from g p b narrow (l ∷ path) a leads =
     let at = link_in g l narrow leads.0 in
     (l.taker, subst (λ x. IsLink g x l.taker l.place) leads.2 at.link, chain_from g p b narrow path l.taker leads.3)
 
 -- none of them is p
-others_from : (g : Graph) (p b : ℕ) (path : List Link) (a : ℕ) → IsPath (all_links g) p a b path
+others_from : (g : Graph) (p b : ℕ) (path : List Link) (a : ℕ) → IsPath g p a b path
     → All (λ q. q ≢ p) (map (λ (l : Link). l.place) path)
 others_from g p b [] a e = All-nil (λ q. q ≢ p)
 others_from g p b (l ∷ path) a leads = All-cons (λ q. q ≢ p) l.place (map (λ (l : Link). l.place) path) leads.1 (others_from g p b path l.taker leads.3)
 
 -- they hold what the path holds
 sum_from : (g : Graph) (p b : ℕ) → IsWeightlessPastLast g → (path : List Link) (a : ℕ)
-    → IsPath (all_links g) p a b path
+    → IsPath g p a b path
     → sum_by (tokens_at g) (map (λ (l : Link). l.place) path) ≡ tokens_on path
 sum_from g p b narrow [] a e = refl
 sum_from g p b narrow (l ∷ path) a leads = omega (
@@ -205,7 +192,7 @@ sum_from g p b narrow (l ∷ path) a leads = omega (
 
 -- a link with a path beside it that holds at most its tokens is a shortcut
 pub shortcut_is : (g : Graph) (p : ℕ) (l : Link) → IsWeightlessPastLast g → link_at g p ≡ Some l
-    → l.giver ≢ l.taker → HasPath (all_links g) l.place l.giver l.taker l.tokens
+    → l.giver ≢ l.taker → HasPath g l.place l.giver l.taker l.tokens 0
     → IsShortcut g p
 shortcut_is g p l narrow e differ h =
     let at = link_is g p l narrow e in record {
@@ -222,12 +209,8 @@ shortcut_is g p l narrow e differ h =
 -- the path of a chain
 record Paths (g : Graph) (p a b : ℕ) (chain : List ℕ) : Type 0 where
   path : List Link
-  leads : IsPath (all_links g) p a b path
+  leads : IsPath g p a b path
   same : tokens_on path ≡ sum_by (tokens_at g) chain
-
--- a link is a place of the graph
-place_below : (g : Graph) (a b p : ℕ) → IsLink g a b p → p < length g.places
-place_below g a b p k = taken_below g b p (omega (arith, k.taken))
 
 -- the links of a chain are a path
 path_from : (g : Graph) (p b : ℕ) → IsWeightlessPastLast g → (chain : List ℕ) (a : ℕ)
@@ -238,7 +221,7 @@ path_from g p b narrow (q ∷ chain) a leads others =
     let l : Link = record { place = q; giver = a; taker = leads.0; tokens = tokens_at g q } in
     record {
       path = l ∷ rest.path;
-      leads = (links_have g (length g.places) q l (place_below g a leads.0 q leads.1) (link_there g q a leads.0 narrow leads.1), All-head (λ q. q ≢ p) q chain others, refl, rest.leads);
+      leads = (link_there g q a leads.0 narrow leads.1, All-head (λ q. q ≢ p) q chain others, refl, rest.leads);
       same = omega (arith, sum_by-cons (λ (l : Link). l.tokens) l rest.path, sum_by-cons (tokens_at g) q chain, rest.same);
     }
 
@@ -249,7 +232,7 @@ shortcut_link g p narrow s = link_there g p s.giver s.taker narrow s.link
 
 -- beside a shortcut a path leads that holds at most its tokens
 shortcut_path : (g : Graph) (p : ℕ) → IsWeightlessPastLast g → (s : IsShortcut g p)
-    → HasPath (all_links g) p s.giver s.taker (tokens_at g p)
+    → HasPath g p s.giver s.taker (tokens_at g p) 0
 shortcut_path g p narrow s =
     let x = path_from g p s.taker narrow s.chain s.giver s.leads s.apart in
     record { path = x.path; leads = x.leads; few = omega (arith, x.same, s.held) }
@@ -278,7 +261,7 @@ no_link_no_shortcut g p narrow e s = none_some (record { place = p; giver = s.gi
 -- where a shortcut is, there is a path beside its link
 pub shortcut_there : (g : Graph) (p : ℕ) (l : Link) → IsWeightlessPastLast g
     → link_at g p ≡ Some l → IsShortcut g p
-    → HasPath (all_links g) l.place l.giver l.taker l.tokens
+    → HasPath g l.place l.giver l.taker l.tokens 0
 shortcut_there g p l narrow e s =
-    let P : Link → Type 0 = λ x. HasPath (all_links g) x.place x.giver x.taker x.tokens in
+    let P : Link → Type 0 = λ x. HasPath g x.place x.giver x.taker x.tokens 0 in
     subst P (shortcut_same g p l narrow e s) (shortcut_path g p narrow s)

@@ -9,10 +9,12 @@ ghost use Rattle.stg_redundant.specs.inner.Tests as tests;
 ghost use Rattle.stg_redundant.specs.Rules.{IsPlaceFound};
 ghost use Rattle.stg_redundant.specs.inner.Searches.{IsFirst, IsPlaceRuleOf};
 
-use crate::chains::{Link, find_links, has_chain, link_at};
+use crate::chains::{Link, find_links};
 use crate::found::{PlaceFound, PlaceRule};
+use crate::search::has_chain;
 use crate::walks::{are_at_most, are_same, first_of};
 use std::alloc::Global;
+use std::collections::BinaryHeap;
 use stg_edit::{Editor, Walk};
 use stg_net::NoMemory;
 
@@ -91,43 +93,56 @@ fn is_loop(editor: &Editor, p: u32) -> bool
 }
 
 /// Whether a chain of other places leads where a live place leads, with at most its tokens.
-fn is_shortcut(editor: &Editor, links: &[Link], sums: &mut [u64], p: u32) -> bool
+fn is_shortcut(
+    editor: &Editor,
+    links: &[Option<Link>],
+    rooms: &mut [u64],
+    list: &mut BinaryHeap<(u64, u32)>,
+    p: u32,
+) -> Result<bool, NoMemory>
+    requires draft { IsDraft editor.now }
     requires live { IsPlace editor.now.now p }
     requires links { links.now ≡ all_links editor.now.now }
-    requires sums { length sums.old ≡ length editor.now.now.trans }
-    ensures value { IsTrue result ↔ IsShortcut editor.now.now p }
-    ensures len { length sums.new ≡ length sums.old }
+    requires rooms { length rooms.old ≡ length editor.now.now.trans }
+    ensures value { IfOk result (λ yes. IsTrue yes ↔ IsShortcut editor.now.now p) }
+    ensures len { length rooms.new ≡ length rooms.old }
 {
-    match link_at(editor, p) {
-        None => false,
+    match links[p as usize] {
+        None => Ok(false),
         Some(link) => {
             if link.giver == link.taker {
-                return false;
+                return Ok(false);
             }
-            has_chain(sums, links, link)
+            has_chain(editor, links, rooms, list, link)
         }
     }
 }
 
 /// The first rule by which a live place is redundant.
-fn rule_of(editor: &Editor, links: &[Link], sums: &mut [u64], p: u32) -> Option<PlaceRule>
+fn rule_of(
+    editor: &Editor,
+    links: &[Option<Link>],
+    rooms: &mut [u64],
+    list: &mut BinaryHeap<(u64, u32)>,
+    p: u32,
+) -> Result<Option<PlaceRule>, NoMemory>
     requires live { IsPlace editor.now.now p }
     requires links { links.now ≡ all_links editor.now.now }
-    requires sums { length sums.old ≡ length editor.now.now.trans }
-    ensures value { IsPlaceRuleOf editor.now.now p result }
-    ensures len { length sums.new ≡ length sums.old }
+    requires rooms { length rooms.old ≡ length editor.now.now.trans }
+    ensures value { IfOk result (λ rule. IsPlaceRuleOf editor.now.now p rule) }
+    ensures len { length rooms.new ≡ length rooms.old }
 {
     match find_same(editor, p) {
-        Some(q) => return Some(PlaceRule::Same(q)),
+        Some(q) => return Ok(Some(PlaceRule::Same(q))),
         None => {}
     }
     if is_loop(editor, p) {
-        return Some(PlaceRule::Loop);
+        return Ok(Some(PlaceRule::Loop));
     }
-    if is_shortcut(editor, links, sums, p) {
-        return Some(PlaceRule::Shortcut);
+    if is_shortcut(editor, links, rooms, list, p)? {
+        return Ok(Some(PlaceRule::Shortcut));
     }
-    None
+    Ok(None)
 }
 
 /// The redundant place of greatest number, with its first rule.
@@ -135,10 +150,11 @@ pub fn redundant_place(alloc: Global, editor: &Editor) -> Result<Option<PlaceFou
     ensures { IfOk result (λ found. IsPlaceFound editor.now.now found) }
 {
     let links = find_links(alloc, editor)?;
-    let mut sums = vec![in alloc; 0u64; editor.all_trans() as usize]?;
+    let mut rooms = vec![in alloc; 0u64; editor.all_trans() as usize]?;
+    let mut list = BinaryHeap::new(alloc);
     for p in (0..editor.next_place()).rev() {
         if has_place(editor, p) {
-            match rule_of(editor, &links, &mut sums, p) {
+            match rule_of(editor, &links, &mut rooms, &mut list, p)? {
                 Some(rule) => return Ok(Some(PlaceFound { place: p, rule })),
                 None => {}
             }

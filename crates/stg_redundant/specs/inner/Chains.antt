@@ -1,6 +1,8 @@
 -- Links, which are places with one giver and one taker with weights 1, and paths along them.
-use Rattle.std.specs.Prelude.{◌≡◌, ◌≢◌, ◌≤◌, ◌<◌, ◌+◌, ℕ, zero, suc, List, [], ◌∷◌, ◌++◌, length, Option, None, Some, Contains, All, slice_set, slice_index, sum_by}
-use Rattle.stg_net.specs.Graph.{Graph, tokens_at}
+use Rattle.std.specs.Prelude.{◌≡◌, ◌≢◌, ◌≤◌, ◌<◌, ◌+◌, ◌-◌, ◌⊎◌, ℕ, List, [], ◌∷◌, length, map, Option, None, Some, Contains, All, slice_set, slice_index, sum_by}
+use Rattle.std.specs.List.{range_with_len}
+use Rattle.std.specs.List.Sorted.{IsPermutation}
+use Rattle.stg_net.specs.Graph.{Graph, IsTrans, tokens_at}
 use Rattle.stg_edit.specs.Walks.{taking_trans, giving_trans}
 use Rattle.stg_redundant.specs.declared.chains.Link.{Link}
 use Rattle.stg_redundant.specs.inner.Tests.{sole_of}
@@ -15,57 +17,98 @@ link_of g p None o = None
 abbrev pub link_at : Graph → ℕ → Option Link
 link_at g p = link_of g p (sole_of (giving_trans g p)) (sole_of (taking_trans g p))
 
--- the list of that link, or of none
-abbrev pub link_list : Option Link → List Link
-link_list None = []
-link_list (Some l) = l ∷ []
+-- what stands at each of the places below n
+abbrev pub links_below : Graph → ℕ → List (Option Link)
+links_below g n = map (link_at g) (range_with_len 0 n)
 
--- the links among the places below n
-abbrev pub links_below : Graph → ℕ → List Link
-links_below g zero = []
-links_below g (suc n) = links_below g n ++ link_list (link_at g n)
-
--- all links
-abbrev pub all_links : Graph → List Link
+-- what stands at each place
+abbrev pub all_links : Graph → List (Option Link)
 all_links g = links_below g (length g.places)
 
 -- links other than that of the place p lead from a to b
-abbrev pub IsPath : List Link → ℕ → ℕ → ℕ → List Link → Type 0
-IsPath links p a b [] = a ≡ b
-IsPath links p a b (l ∷ path) =
-    Contains links l × (l.place ≢ p) × (l.giver ≡ a) × IsPath links p l.taker b path
+abbrev pub IsPath : Graph → ℕ → ℕ → ℕ → List Link → Type 0
+IsPath g p a b [] = a ≡ b
+IsPath g p a b (l ∷ path) =
+    (link_at g l.place ≡ Some l) × (l.place ≢ p) × (l.giver ≡ a) × IsPath g p l.taker b path
 
 -- what the links of a path hold
 abbrev pub tokens_on : List Link → ℕ
 tokens_on path = sum_by (λ (l : Link). l.tokens) path
 
--- such a path from a to b holds at most so much
-pub record HasPath (links : List Link) (p a b most : ℕ) : Type 0 where
+-- such a path from a to b leaves so much room of all
+pub record HasPath (g : Graph) (p a b all room : ℕ) : Type 0 where
   pub path : List Link
-  pub leads : IsPath links p a b path
-  pub few : tokens_on path ≤ most
+  pub leads : IsPath g p a b path
+  pub few : tokens_on path + room ≤ all
 
--- both ends of each link are there
-abbrev pub AreWithin : ℕ → List Link → Type 0
-AreWithin n links = All (λ (l : Link). (l.giver < n) × (l.taker < n)) links
+-- each room is left by a path from a
+abbrev pub AreReached : Graph → ℕ → ℕ → ℕ → List ℕ → Type 0
+AreReached g p a all rooms =
+    (t : ℕ) → 0 < slice_index rooms t → HasPath g p a t all (slice_index rooms t)
 
--- each sum is least: no link but that of p leads to a lesser one
-abbrev pub AreLeast : List Link → ℕ → List ℕ → Type 0
-AreLeast links p sums =
-    All (λ (l : Link). l.place ≢ p → slice_index sums l.taker ≤ slice_index sums l.giver + l.tokens) links
+-- the transition is listed with its room
+abbrev pub IsListed : List (ℕ × ℕ) → List ℕ → ℕ → Type 0
+IsListed entries rooms t = Contains entries (slice_index rooms t, t)
 
--- each sum below `far` is that of a path from a
-abbrev pub AreReached : List Link → ℕ → ℕ → ℕ → List ℕ → Type 0
-AreReached links p a far sums =
-    (t : ℕ) → t < length sums → slice_index sums t < far → HasPath links p a t (slice_index sums t)
+-- the entries are of live transitions
+abbrev pub AreLive : Graph → List (ℕ × ℕ) → Type 0
+AreLive g entries = All (λ (x : ℕ × ℕ). IsTrans g x.1) entries
 
--- nothing falls along the link, or it is that of p
-pub record IsUnlowered (l : Link) (p : ℕ) (old new : List ℕ) : Type 0 where
-  pub same : new ≡ old
-  pub least : l.place ≢ p → slice_index old l.taker ≤ slice_index old l.giver + l.tokens
+-- where the link goes on to b, the room at its end is not less than it leaves
+abbrev pub IsSettled : Graph → ℕ → ℕ → List ℕ → Link → Type 0
+IsSettled g p b rooms l = HasPath g p l.taker b (slice_index rooms l.giver) (l.tokens + 1)
+    → slice_index rooms l.giver ≤ slice_index rooms l.taker + l.tokens
 
--- the sum at the end of the link fell
-pub record IsLowered (l : Link) (p : ℕ) (old new : List ℕ) : Type 0 where
-  pub other : l.place ≢ p
-  pub lower : slice_index old l.giver + l.tokens < slice_index old l.taker
-  pub set : new ≡ slice_set old l.taker (slice_index old l.giver + l.tokens)
+-- each link but that of p is settled or excused
+abbrev pub AreSettled : Graph → ℕ → ℕ → List ℕ → (Link → Type 0) → Type 0
+AreSettled g p b rooms IsExcused = (l : Link) → link_at g l.place ≡ Some l → l.place ≢ p
+    → IsExcused l ⊎ IsSettled g p b rooms l
+
+-- the number is one of those with a weight
+abbrev pub IsAmong : ℕ → List (ℕ × ℕ) → Type 0
+IsAmong q [] = ⊥
+IsAmong q (x ∷ xs) = (x.0 ≡ q) ⊎ IsAmong q xs
+
+-- nothing changes, for the link at q is settled
+pub record IsKept (g : Graph) (p b q : ℕ) (old new : List ℕ) (before after : List (ℕ × ℕ)) : Type 0 where
+  pub rooms : new ≡ old
+  pub entries : after ≡ before
+  pub settled : (l : Link) → link_at g q ≡ Some l → q ≢ p → IsSettled g p b old l
+
+-- the room at the end of the link at q rises to what the link leaves, and is listed
+pub record IsRaised (g : Graph) (p q : ℕ) (old new : List ℕ) (before after : List (ℕ × ℕ)) : Type 0 where
+  pub link : Link
+  pub at : link_at g q ≡ Some link
+  pub other : q ≢ p
+  pub more : slice_index old link.taker + link.tokens < slice_index old link.giver
+  pub set : new ≡ slice_set old link.taker (slice_index old link.giver - link.tokens)
+  pub listed : IsPermutation ((slice_index old link.giver - link.tokens, link.taker) ∷ before) after
+
+-- the link at q is kept or raised
+abbrev pub IsVisited : Graph → ℕ → ℕ → ℕ → List ℕ → List ℕ → List (ℕ × ℕ) → List (ℕ × ℕ) → Type 0
+IsVisited g p b q old new before after =
+    IsKept g p b q old new before after ⊎ IsRaised g p q old new before after
+
+-- what all lacks of each room, and the entries
+abbrev pub effort : ℕ → List ℕ → List (ℕ × ℕ) → ℕ
+effort all rooms entries = sum_by (λ room. all - room) rooms + length entries
+
+-- the links that leave t are visited, but those at the places that are left
+pub record IsFollowed (g : Graph) (p b t : ℕ) (left : List (ℕ × ℕ)) (old new : List ℕ) (before after : List (ℕ × ℕ)) : Type 0 where
+  pub long : length new ≡ length old
+  pub small : (all : ℕ) → All (λ room. room ≤ all) old → All (λ room. room ≤ all) new
+  pub grown : (u : ℕ) → slice_index old u ≤ slice_index new u
+  pub live : AreLive g before → AreLive g after
+  pub reached : (a all : ℕ) → AreReached g p a all old → AreReached g p a all new
+  pub spent : (all : ℕ) → All (λ room. room ≤ all) old → effort all new after ≤ effort all old before
+  pub settled : AreSettled g p b old (λ l. IsListed before old l.giver ⊎ (l.giver ≡ t))
+      → AreSettled g p b new (λ l. IsListed after new l.giver ⊎ ((l.giver ≡ t) × IsAmong l.place left))
+
+-- how a search from a stands, with so much room of all links but that of p
+pub record IsSearch (g : Graph) (p a b all : ℕ) (rooms : List ℕ) (entries : List (ℕ × ℕ)) : Type 0 where
+  pub long : length rooms ≡ length g.trans
+  pub small : All (λ room. room ≤ all) rooms
+  pub first : all ≤ slice_index rooms a
+  pub live : AreLive g entries
+  pub reached : AreReached g p a all rooms
+  pub settled : AreSettled g p b rooms (λ l. IsListed entries rooms l.giver)

@@ -1,36 +1,39 @@
-use Rattle.std.proofs.Common.{length, sym, subst, ◌∙◌, arith}
+use Rattle.std.proofs.Common.{◌↔◌, Bool, IsTrue, ap, sym, ◌∙◌}
+use Rattle.std.proofs.lemmas.Result.{IfOk-weaker}
+use Rattle.stg_laws.specs.RedundantPlaces.{IsShortcut}
 use Rattle.std.proofs.lemmas.Bool.{false≢true}
-use Rattle.std.proofs.Common.{List}
-use Rattle.stg_redundant.specs.declared.chains.Link.{Link}
-use Rattle.stg_redundant.specs.inner.Chains.{AreWithin, HasPath}
-use Rattle.stg_redundant.proofs.LinkPaths.{link_is, within, loop_no_shortcut, shortcut_is, shortcut_there, no_link_no_shortcut}
+use Rattle.stg_redundant.specs.inner.Chains.{link_at, HasPath}
+use Rattle.stg_redundant.proofs.LinkPaths.{link_place, loop_no_shortcut, shortcut_is, shortcut_there, no_link_no_shortcut}
+use Rattle.stg_redundant.proofs.LinkTables.{in_table, at_place}
 use Rattle.stg_redundant.proofs.places.is_shortcut.Goals as goal
 
-pub returns-then-link-clause-value : goal.returns-then-link-clause-value
-returns-then-link-clause-value c = (λ f. absurd (false≢true f), λ s. absurd (loop_no_shortcut c.args.editor.now.now c.args.p c.in-Some.link c.link_at.ensures.draft.narrow (sym c.link_at.ensures.value ∙ c.in-Some.is) c.if-link.true s))
-
-pub has_chain-requires-clause-within : goal.has_chain-requires-clause-within
-has_chain-requires-clause-within c =
-    let g = c.args.editor.now.now in
-    subst (λ n. AreWithin n c.args.links.now) (sym c.requires.sums) (subst (AreWithin (length g.trans)) (sym c.requires.links) (within g c.link_at.ensures.draft.narrow))
-
-pub has_chain-requires-clause-giver : goal.has_chain-requires-clause-giver
-has_chain-requires-clause-giver c =
-    omega (arith, (link_is c.args.editor.now.now c.args.p c.in-Some.link c.link_at.ensures.draft.narrow (sym c.link_at.ensures.value ∙ c.in-Some.is)).giver_below, c.requires.sums)
-
-pub has_chain-requires-clause-taker : goal.has_chain-requires-clause-taker
-has_chain-requires-clause-taker c =
-    omega (arith, (link_is c.args.editor.now.now c.args.p c.in-Some.link c.link_at.ensures.draft.narrow (sym c.link_at.ensures.value ∙ c.in-Some.is)).taker_below, c.requires.sums)
+pub bounds : goal.bounds
+bounds c = in_table c.args.editor.now.now c.args.links.now c.args.p c.requires.links c.requires.live
 
 pub returns-in-None-clause-value : goal.returns-in-None-clause-value
-returns-in-None-clause-value c = (λ f. absurd (false≢true f), λ s. absurd (no_link_no_shortcut c.args.editor.now.now c.args.p c.link_at.ensures.draft.narrow (sym c.link_at.ensures.value ∙ c.in-None.is) s))
+returns-in-None-clause-value c =
+    let g = c.args.editor.now.now in
+    let none = sym (at_place g c.args.links.now c.args.p c.requires.links c.requires.live) ∙ c.in-None.is in
+    (λ f. absurd (false≢true f), λ s. absurd (no_link_no_shortcut g c.args.p c.requires.draft.narrow none s))
+
+pub returns-then-link-clause-value : goal.returns-then-link-clause-value
+returns-then-link-clause-value c =
+    let g = c.args.editor.now.now in
+    let some = sym (at_place g c.args.links.now c.args.p c.requires.links c.requires.live) ∙ c.in-Some.is in
+    (λ f. absurd (false≢true f), λ s. absurd (loop_no_shortcut g c.args.p c.in-Some.link c.requires.draft.narrow some c.if-link.true s))
+
+pub has_chain-requires-clause-sought : goal.has_chain-requires-clause-sought
+has_chain-requires-clause-sought c =
+    let g = c.args.editor.now.now in
+    let l = c.in-Some.link in
+    let some = sym (at_place g c.args.links.now c.args.p c.requires.links c.requires.live) ∙ c.in-Some.is in
+    ap (link_at g) (link_place g c.args.p l some) ∙ some
 
 pub returns-else-link-clause-value : goal.returns-else-link-clause-value
 returns-else-link-clause-value c =
     let g = c.args.editor.now.now in
     let l = c.in-Some.link in
-    let e = sym c.link_at.ensures.value ∙ c.in-Some.is in
-    let P : List Link → Type 0 = λ links. HasPath links l.place l.giver l.taker l.tokens in (
-      λ yes. shortcut_is g c.args.p l c.link_at.ensures.draft.narrow e c.if-link.false (subst P c.requires.links (c.has_chain.ensures.value.0 yes)),
-      λ s. c.has_chain.ensures.value.1 (subst P (sym c.requires.links) (shortcut_there g c.args.p l c.link_at.ensures.draft.narrow e s)),
-    )
+    let some = sym (at_place g c.args.links.now c.args.p c.requires.links c.requires.live) ∙ c.in-Some.is in
+    let P : Bool → Type 0 = λ found. IsTrue found ↔ HasPath g l.place l.giver l.taker l.tokens 0 in
+    let Q : Bool → Type 0 = λ found. IsTrue found ↔ IsShortcut g c.args.p in
+    IfOk-weaker c.has_chain.result P Q (λ found w. (λ yes. shortcut_is g c.args.p l c.requires.draft.narrow some c.if-link.false (w.0 yes), λ s. w.1 (shortcut_there g c.args.p l c.requires.draft.narrow some s))) c.has_chain.ensures.value

@@ -10,13 +10,13 @@ use Rattle.stg_redundant.proofs.places.redundant_place.Goals as goal
 pub returns-in-Some : goal.returns-in-Some
 returns-in-Some c =
     let g = c.args.editor.now.now in
-    (subst (IsPlaceRuleOf g (c.loop-p.p - 1)) c.in-Some.is c.rule_of.ensures.value, λ q r. omega (arith, c.loop-p.invariant.rest q r, c.loop-p-test.true))
+    (subst (IsPlaceRuleOf g (c.loop-p.p - 1)) c.in-Some.is c.in_ok-rule.ensures.value, λ q r. omega (arith, c.loop-p.invariant.rest q r, c.loop-p-test.true))
 
 pub loop-p-preserved-in-None : goal.loop-p-preserved-in-None
 loop-p-preserved-in-None c =
     let g = c.args.editor.now.now in
     let p = c.loop-p.p - 1 in
-    let none = subst (IsPlaceRuleOf g p) c.in-None.is c.rule_of.ensures.value in
+    let none = subst (IsPlaceRuleOf g p) c.in-None.is c.in_ok-rule.ensures.value in
     let same = c.rule_of.ensures.len ∙ ap length c.deref_mut.ensures.value in
     record {
       rest = λ q r. elim (cases_order q p) [
@@ -24,7 +24,7 @@ loop-p-preserved-in-None c =
         | inr (inl low) ↦ low
         | inr (inr high) ↦ absurd (omega (arith, high, c.loop-p.invariant.rest q r))
       ];
-      long = ap length (with_items_is c.loop-p.sums c.rule_of.new.sums (same ∙ sym c.loop-p.sums.ok.0)) ∙ same ∙ c.loop-p.invariant.long;
+      long = ap length (with_items_is c.loop-p.rooms c.rule_of.new.rooms (same ∙ sym c.loop-p.rooms.ok.0)) ∙ same ∙ c.loop-p.invariant.long;
     }
 
 pub loop-p-preserved : goal.loop-p-preserved

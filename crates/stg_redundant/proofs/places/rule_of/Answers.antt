@@ -19,13 +19,13 @@ returns-then-is_loop-clause-value c =
     let p = c.args.p in
     (none_same g p (subst (IsFirst (is_same_place g p) (length g.places)) c.in-None.is c.find_same.ensures.value), loop_place_is g p c.find_same.ensures.draft.narrow c.requires.live (sym c.is_loop.ensures ∙ c.if-is_loop.true))
 
-pub returns-then-is_shortcut-clause-value : goal.returns-then-is_shortcut-clause-value
-returns-then-is_shortcut-clause-value c =
+pub returns-then-branch-clause-value : goal.returns-then-branch-clause-value
+returns-then-branch-clause-value c =
     let g = c.args.editor.now.now in
     let p = c.args.p in (
       none_same g p (subst (IsFirst (is_same_place g p) (length g.places)) c.in-None.is c.find_same.ensures.value),
       λ l. false≢true (sym (sym c.is_loop.ensures ∙ c.if-is_loop.false) ∙ loop_place_there g p l),
-      c.is_shortcut.ensures.value.0 c.if-is_shortcut.true,
+      c.in_ok-is_shortcut.ensures.value.0 c.if-branch.true,
     )
 
 pub returns-clause-value : goal.returns-clause-value
@@ -34,4 +34,4 @@ returns-clause-value c =
     let p = c.args.p in
     not_redundant g p (none_same g p (subst (IsFirst (is_same_place g p) (length g.places)) c.in-None.is c.find_same.ensures.value))
     (λ l. false≢true (sym (sym c.is_loop.ensures ∙ c.if-is_loop.false) ∙ loop_place_there g p l))
-    (λ s. false≢true (sym c.if-is_shortcut.false ∙ c.is_shortcut.ensures.value.1 s))
+    (λ s. false≢true (sym c.if-branch.false ∙ c.in_ok-is_shortcut.ensures.value.1 s))
