@@ -1,15 +1,15 @@
--- The first place of a walk that passes a test is the first of all, where each that passes is in the walk.
+-- The first place or transition of a walk that passes a test is the first of all, where each that passes is in the walk.
 use Rattle.std.proofs.Common.{◌≡◌, ◌<◌, ◌≤◌, ◌+◌, ℕ, zero, suc, Bool, true, false, List, [], ◌∷◌, length, Option, Some, None, All, ap, ◌∙◌, subst, inl, inr, arith}
 use Rattle.std.proofs.lemmas.Bool.{cases_lt, cases_Bool, lt-ltb, le-ltb}
 use Rattle.std.proofs.lemmas.List.Elements.{All-head}
-use Rattle.stg_net.specs.Graph.{Graph, IsPlace, takes, gives}
+use Rattle.stg_net.specs.Graph.{Graph, IsPlace, IsDummy, takes, gives}
 use Rattle.stg_arena.specs.WalkItems.{weighted, weighted_from}
 use Rattle.stg_edit.specs.Walks.{taken_places, given_places, taking_trans, giving_trans}
 use Rattle.stg_edit.specs.Drafts.{IsWeightlessPastLast}
 use Rattle.stg_contract.proofs.WeightLists.{each_from}
-use Rattle.stg_redundant.specs.inner.Tests.{first_of, first_in, is_same_place}
+use Rattle.stg_redundant.specs.inner.Tests.{first_of, first_in, is_same_place, is_same_dummy}
 use Rattle.stg_redundant.specs.inner.Searches.{IsFirst}
-use Rattle.stg_redundant.proofs.RuleTests.{same_place_is}
+use Rattle.stg_redundant.proofs.RuleTests.{same_place_is, same_dummy_is}
 
 -- the first of the numbers from a on, m of them, that passes the test
 abbrev IsFirstFrom : (ℕ → Bool) → ℕ → ℕ → Option ℕ → Type 0
@@ -79,3 +79,15 @@ pub given-IsFirst : (g : Graph) (p t : ℕ) → IsWeightlessPastLast g → IsPla
     → IsFirst (is_same_place g p) (length g.places) (first_in (is_same_place g p) (given_places g t))
 given-IsFirst g p t narrow live e = first-IsFirst (is_same_place g p) (gives g t) (length g.places)
     (λ q same. subst (λ k. 0 < k) ((same_place_is g p q narrow live same).given t) (first_weighs (length g.trans) (λ u. gives g u p) t e))
+
+-- the first transition that takes from the first place from which t takes, and that is the same, is the first of all
+pub takers-IsFirst : (g : Graph) (t p : ℕ) → IsDummy g t → first_of (taken_places g t) ≡ Some p
+    → IsFirst (is_same_dummy g t) (length g.trans) (first_in (is_same_dummy g t) (taking_trans g p))
+takers-IsFirst g t p dummy e = first-IsFirst (is_same_dummy g t) (λ u. takes g u p) (length g.trans)
+    (λ u same. subst (λ k. 0 < k) ((same_dummy_is g t u dummy same).taken p) (first_weighs (length g.places) (takes g t) p e))
+
+-- so is the first one that gives to the first place to which t gives
+pub givers-IsFirst : (g : Graph) (t p : ℕ) → IsDummy g t → first_of (given_places g t) ≡ Some p
+    → IsFirst (is_same_dummy g t) (length g.trans) (first_in (is_same_dummy g t) (giving_trans g p))
+givers-IsFirst g t p dummy e = first-IsFirst (is_same_dummy g t) (λ u. gives g u p) (length g.trans)
+    (λ u same. subst (λ k. 0 < k) ((same_dummy_is g t u dummy same).given p) (first_weighs (length g.places) (gives g t) p e))

@@ -1,6 +1,8 @@
 pub mod RuleTests
 pub mod FirstSame
 pub mod Searching
+pub mod DeadEnds
+pub mod Growing
 pub mod LinkPaths
 pub mod LinkTables
 mod Examples

@@ -7,8 +7,8 @@ ghost use Rattle.stg_redundant.specs.Rules.{IsDummyFound};
 ghost use Rattle.stg_redundant.specs.inner.Searches.{IsFirst, IsDummyRuleOf};
 
 use crate::found::{DummyFound, DummyRule};
-use crate::walks::are_same;
-use stg_edit::Editor;
+use crate::walks::{are_same, first_of};
+use stg_edit::{Editor, Walk};
 
 /// Whether there is a live dummy of that number.
 fn is_dummy(editor: &Editor, t: u32) -> bool
@@ -36,8 +36,21 @@ fn is_same(editor: &Editor, t: u32, u: u32) -> bool
         && are_same(editor.gives(t), editor.gives(u))
 }
 
-/// The least other dummy with the arcs of a live transition.
-fn find_same(editor: &Editor, t: u32) -> Option<u32>
+/// The first of these transitions that is another dummy with the arcs of t.
+fn first_same(editor: &Editor, t: u32, trans: Walk<'_>) -> Option<u32>
+    requires { IsTrans editor.now.now t }
+    ensures { result ≡ tests.first_in (tests.is_same_dummy editor.now.now t) trans.entry }
+{
+    for (u, _) in trans {
+        if is_same(editor, t, u) {
+            return Some(u);
+        }
+    }
+    None
+}
+
+/// The least of all other dummies with the arcs of t.
+fn find_same_among_all(editor: &Editor, t: u32) -> Option<u32>
     requires { IsTrans editor.now.now t }
     ensures { IsFirst (tests.is_same_dummy editor.now.now t) (length editor.now.now.trans) result }
 {
@@ -47,6 +60,23 @@ fn find_same(editor: &Editor, t: u32) -> Option<u32>
         }
     }
     None
+}
+
+/// The least other dummy with the arcs of a dummy. It is sought among the transitions at a place of
+/// t, where t has one.
+fn find_same(editor: &Editor, t: u32) -> Option<u32>
+    requires { IsDummy editor.now.now t }
+    ensures { IsFirst (tests.is_same_dummy editor.now.now t) (length editor.now.now.trans) result }
+{
+    match first_of(editor.takes(t)) {
+        Some(p) => return first_same(editor, t, editor.takers(p)),
+        None => {}
+    }
+    match first_of(editor.gives(t)) {
+        Some(p) => return first_same(editor, t, editor.givers(p)),
+        None => {}
+    }
+    find_same_among_all(editor, t)
 }
 
 /// The first rule by which a dummy is redundant.

@@ -5,12 +5,14 @@ ghost use Rattle.stg_net.specs.Graph.{IsPlace, place_at};
 ghost use Rattle.stg_laws.specs.RedundantPlaces.{IsShortcut};
 ghost use Rattle.stg_edit.specs.Drafts.{IsDraft};
 ghost use Rattle.stg_redundant.specs.inner.Chains.{all_links};
+ghost use Rattle.stg_redundant.specs.inner.Levelled.{IsLevelled};
 ghost use Rattle.stg_redundant.specs.inner.Tests as tests;
 ghost use Rattle.stg_redundant.specs.Rules.{IsPlaceFound};
 ghost use Rattle.stg_redundant.specs.inner.Searches.{IsFirst, IsPlaceRuleOf};
 
 use crate::chains::{Link, find_links};
 use crate::found::{PlaceFound, PlaceRule};
+use crate::levels::{Levels, find_levels};
 use crate::search::has_chain;
 use crate::walks::{are_at_most, are_same, first_of};
 use std::alloc::Global;
@@ -96,6 +98,7 @@ fn is_loop(editor: &Editor, p: u32) -> bool
 fn is_shortcut(
     editor: &Editor,
     links: &[Option<Link>],
+    levels: &Levels,
     rooms: &mut [u64],
     list: &mut BinaryHeap<(u64, u32)>,
     p: u32,
@@ -103,6 +106,7 @@ fn is_shortcut(
     requires draft { IsDraft editor.now }
     requires live { IsPlace editor.now.now p }
     requires links { links.now ≡ all_links editor.now.now }
+    requires levels { IsLevelled editor.now.now levels.now }
     requires rooms { length rooms.old ≡ length editor.now.now.trans }
     ensures value { IfOk result (λ yes. IsTrue yes ↔ IsShortcut editor.now.now p) }
     ensures len { length rooms.new ≡ length rooms.old }
@@ -113,7 +117,7 @@ fn is_shortcut(
             if link.giver == link.taker {
                 return Ok(false);
             }
-            has_chain(editor, links, rooms, list, link)
+            has_chain(editor, links, levels, rooms, list, link)
         }
     }
 }
@@ -122,12 +126,14 @@ fn is_shortcut(
 fn rule_of(
     editor: &Editor,
     links: &[Option<Link>],
+    levels: &Levels,
     rooms: &mut [u64],
     list: &mut BinaryHeap<(u64, u32)>,
     p: u32,
 ) -> Result<Option<PlaceRule>, NoMemory>
     requires live { IsPlace editor.now.now p }
     requires links { links.now ≡ all_links editor.now.now }
+    requires levels { IsLevelled editor.now.now levels.now }
     requires rooms { length rooms.old ≡ length editor.now.now.trans }
     ensures value { IfOk result (λ rule. IsPlaceRuleOf editor.now.now p rule) }
     ensures len { length rooms.new ≡ length rooms.old }
@@ -139,7 +145,7 @@ fn rule_of(
     if is_loop(editor, p) {
         return Ok(Some(PlaceRule::Loop));
     }
-    if is_shortcut(editor, links, rooms, list, p)? {
+    if is_shortcut(editor, links, levels, rooms, list, p)? {
         return Ok(Some(PlaceRule::Shortcut));
     }
     Ok(None)
@@ -150,11 +156,12 @@ pub fn redundant_place(alloc: Global, editor: &Editor) -> Result<Option<PlaceFou
     ensures { IfOk result (λ found. IsPlaceFound editor.now.now found) }
 {
     let links = find_links(alloc, editor)?;
+    let levels = find_levels(alloc, editor, &links)?;
     let mut rooms = vec![in alloc; 0u64; editor.all_trans() as usize]?;
     let mut list = BinaryHeap::new(alloc);
     for p in (0..editor.next_place()).rev() {
         if has_place(editor, p) {
-            match rule_of(editor, &links, &mut rooms, &mut list, p)? {
+            match rule_of(editor, &links, &levels, &mut rooms, &mut list, p)? {
                 Some(rule) => return Ok(Some(PlaceFound { place: p, rule })),
                 None => {}
             }

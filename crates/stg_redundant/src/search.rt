@@ -1,12 +1,15 @@
 //! The search for a chain beside a link.
 
-ghost use Rattle.std.specs.Prelude.{◌≡◌, ◌≤◌, ◌<◌, ◌+◌, ◌-◌, ◌↔◌, ℕ, List, [], Some, length, All, IfOk, OnOk, IsTrue, false, true, slice_index, slice_set};
+ghost use Rattle.std.specs.Prelude.{◌≡◌, ◌≢◌, ◌≤◌, ◌<◌, ◌+◌, ◌-◌, ◌↔◌, ℕ, List, [], Some, length, All, IfOk, OnOk, IsTrue, false, true, slice_index, slice_set};
 ghost use Rattle.std.specs.BinaryHeap.{heap_items};
 ghost use Rattle.stg_net.specs.Graph.{Graph, IsPlace, IsTrans};
 ghost use Rattle.stg_edit.specs.Drafts.{IsDraft};
+ghost use Rattle.stg_redundant.specs.declared.chains.Link.{Link};
 ghost use Rattle.stg_redundant.specs.inner.Chains as chains;
+ghost use Rattle.stg_redundant.specs.inner.Levelled.{IsLevelled};
 
 use crate::chains::Link;
+use crate::levels::{Levels, is_dead};
 use std::collections::BinaryHeap;
 use stg_edit::Editor;
 use stg_net::NoMemory;
@@ -37,6 +40,7 @@ fn raise(rooms: &mut [u64], link: Link) -> bool
 fn visit(
     editor: &Editor,
     links: &[Option<Link>],
+    levels: &Levels,
     rooms: &mut [u64],
     list: &mut BinaryHeap<(u64, u32)>,
     sought: Link,
@@ -44,7 +48,9 @@ fn visit(
 ) -> Result<(), NoMemory>
     requires draft { IsDraft editor.now }
     requires links { links.now ≡ chains.all_links editor.now.now }
+    requires levels { IsLevelled editor.now.now levels.now }
     requires rooms { length rooms.old ≡ length editor.now.now.trans }
+    requires to { sought.taker < length editor.now.now.trans }
     requires place { IsPlace editor.now.now q }
     ensures ok { OnOk result (chains.IsVisited editor.now.now sought.place sought.taker q
         rooms.old rooms.new (heap_items list.old) (heap_items list.new)) }
@@ -54,7 +60,13 @@ fn visit(
         Some(link) => link,
         None => return Ok(()),
     };
-    if q != sought.place && raise(rooms, link) {
+    if q == sought.place {
+        return Ok(());
+    }
+    if is_dead(levels, link, sought.taker, rooms[link.giver as usize]) {
+        return Ok(());
+    }
+    if raise(rooms, link) {
         list.push((rooms[link.taker as usize], link.taker))?;
     }
     Ok(())
@@ -64,6 +76,7 @@ fn visit(
 fn follow(
     editor: &Editor,
     links: &[Option<Link>],
+    levels: &Levels,
     rooms: &mut [u64],
     list: &mut BinaryHeap<(u64, u32)>,
     sought: Link,
@@ -71,13 +84,15 @@ fn follow(
 ) -> Result<(), NoMemory>
     requires live { IsTrans editor.now.now t }
     requires links { links.now ≡ chains.all_links editor.now.now }
+    requires levels { IsLevelled editor.now.now levels.now }
+    requires to { sought.taker < length editor.now.now.trans }
     requires rooms { length rooms.old ≡ length editor.now.now.trans }
     ensures ok { OnOk result (chains.IsFollowed editor.now.now sought.place sought.taker t []
         rooms.old rooms.new (heap_items list.old) (heap_items list.new)) }
     ensures len { length rooms.new ≡ length rooms.old }
 {
     for (q, _) in editor.gives(t) {
-        visit(editor, links, rooms, list, sought, q)?;
+        visit(editor, links, levels, rooms, list, sought, q)?;
     }
     Ok(())
 }
@@ -87,11 +102,14 @@ fn follow(
 fn advance(
     editor: &Editor,
     links: &[Option<Link>],
+    levels: &Levels,
     rooms: &mut [u64],
     list: &mut BinaryHeap<(u64, u32)>,
     sought: Link,
 ) -> Result<bool, NoMemory>
     requires links { links.now ≡ chains.all_links editor.now.now }
+    requires levels { IsLevelled editor.now.now levels.now }
+    requires to { sought.taker < length editor.now.now.trans }
     requires search { chains.IsSearch editor.now.now sought.place sought.giver sought.taker
         (sought.tokens + 1) rooms.old (heap_items list.old) }
     ensures ok { OnOk result (chains.IsSearch editor.now.now sought.place sought.giver sought.taker
@@ -107,7 +125,7 @@ fn advance(
         None => Ok(false),
         Some((room, t)) => {
             if room == rooms[t as usize] {
-                follow(editor, links, rooms, list, sought, t)?;
+                follow(editor, links, levels, rooms, list, sought, t)?;
             }
             Ok(true)
         }
@@ -134,26 +152,69 @@ fn start(
     Ok(())
 }
 
+/// Whether the link at a place, where it is one other than the sought one, may begin a chain.
+fn may_begin(editor: &Editor, links: &[Option<Link>], levels: &Levels, sought: Link, q: u32) -> bool
+    requires draft { IsDraft editor.now }
+    requires links { links.now ≡ chains.all_links editor.now.now }
+    requires levels { IsLevelled editor.now.now levels.now }
+    requires to { sought.taker < length editor.now.now.trans }
+    requires place { IsPlace editor.now.now q }
+    ensures { result ≡ false → (l : Link) → chains.link_at editor.now.now q ≡ Some l
+        → q ≢ sought.place → chains.HasPath editor.now.now sought.place l.taker sought.taker
+        (sought.tokens + 1) (l.tokens + 1) → ⊥ }
+{
+    match links[q as usize] {
+        Some(link) => {
+            q != sought.place && !is_dead(levels, link, sought.taker, sought.tokens as u64 + 1)
+        }
+        None => false,
+    }
+}
+
+/// Whether a link that leaves the giver of the sought one may begin a chain.
+fn may_leave(editor: &Editor, links: &[Option<Link>], levels: &Levels, sought: Link) -> bool
+    requires draft { IsDraft editor.now }
+    requires links { links.now ≡ chains.all_links editor.now.now }
+    requires levels { IsLevelled editor.now.now levels.now }
+    requires to { sought.taker < length editor.now.now.trans }
+    requires giver { IsTrans editor.now.now sought.giver }
+    ensures { result ≡ false → chains.HasPath editor.now.now sought.place sought.giver sought.taker
+        sought.tokens 0 → sought.giver ≡ sought.taker }
+{
+    for (q, _) in editor.gives(sought.giver) {
+        if may_begin(editor, links, levels, sought, q) {
+            return true;
+        }
+    }
+    false
+}
+
 /// Whether links but the sought one lead from its giver to its taker with at most its tokens. The
 /// rooms, one for each transition, and the list are set anew.
 pub fn has_chain(
     editor: &Editor,
     links: &[Option<Link>],
+    levels: &Levels,
     rooms: &mut [u64],
     list: &mut BinaryHeap<(u64, u32)>,
     sought: Link,
 ) -> Result<bool, NoMemory>
     requires draft { IsDraft editor.now }
     requires links { links.now ≡ chains.all_links editor.now.now }
+    requires levels { IsLevelled editor.now.now levels.now }
     requires rooms { length rooms.old ≡ length editor.now.now.trans }
     requires sought { chains.link_at editor.now.now sought.place ≡ Some sought }
+    requires apart { sought.giver ≢ sought.taker }
     ensures value { IfOk result (λ found. IsTrue found ↔ chains.HasPath editor.now.now sought.place
         sought.giver sought.taker sought.tokens 0) }
     ensures len { length rooms.new ≡ length rooms.old }
 {
+    if !may_leave(editor, links, levels, sought) {
+        return Ok(false);
+    }
     start(rooms, list, sought.giver, sought.tokens as u64 + 1)?;
     while rooms[sought.taker as usize] == 0 {
-        if !advance(editor, links, rooms, list, sought)? {
+        if !advance(editor, links, levels, rooms, list, sought)? {
             return Ok(false);
         }
     }

@@ -28,3 +28,18 @@ returns-then-not-branch-clause-value c =
     let end = c.in_ok-advance.ensures.end c.if-not-branch.true in
     let search = subst (IsSearch g s.place s.giver s.taker (s.tokens + 1) c.advance.new.rooms) end.0 c.in_ok-advance.ensures.ok in
     (λ f. absurd (false≢true f), λ h. absurd (none_found g s.place s.giver s.taker s.tokens c.advance.new.rooms search (ap (λ xs. get_or xs s.taker 0) end.1 ∙ c.loop-rooms-test.true) h))
+
+pub may_leave-requires-clause-to : goal.may_leave-requires-clause-to
+may_leave-requires-clause-to c =
+    let s = c.args.sought in
+    (link_is c.args.editor.now.now s.place s c.requires.draft.narrow c.requires.sought).taker_below
+
+pub may_leave-requires-clause-giver : goal.may_leave-requires-clause-giver
+may_leave-requires-clause-giver c =
+    let s = c.args.sought in
+    giver_live c.args.editor.now.now s.place s c.requires.draft.narrow c.requires.draft.weightless c.requires.sought
+
+pub advance-requires-clause-to : goal.advance-requires-clause-to
+advance-requires-clause-to c =
+    let s = c.args.sought in
+    (link_is c.args.editor.now.now s.place s c.requires.draft.narrow c.requires.sought).taker_below

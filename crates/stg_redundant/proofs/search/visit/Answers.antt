@@ -3,9 +3,9 @@ use Rattle.std.specs.BinaryHeap.{heap_items}
 use Rattle.std.specs.List.Sorted.{IsPermutation}
 use Rattle.std.proofs.lemmas.List.{get_or-set_same}
 use Rattle.stg_redundant.proofs.LinkPaths.{link_is}
+use Rattle.stg_redundant.proofs.DeadEnds.{dead_settled}
 use Rattle.stg_redundant.proofs.LinkTables.{in_table, at_place, kept_without, kept_enough}
 use Rattle.stg_redundant.proofs.search.visit.Goals as goal
-use Rattle.stg_redundant.proofs.search.visit.Goals.{else-q-sought-via-then-q-sought+else-raise, else-q-sought-via-else-q-sought}
 
 pub bounds : goal.bounds
 bounds c = in_table c.args.editor.now.now c.args.links.now c.args.q c.requires.links c.requires.place
@@ -32,7 +32,42 @@ pub bounds-rooms-link : goal.bounds-rooms-link
 bounds-rooms-link c =
     let g = c.args.editor.now.now in
     let some = sym (at_place g c.args.links.now c.args.q c.requires.links c.requires.place) ∙ c.in-Some.is in
+    omega (arith, (link_is g c.args.q c.in-Some.link c.requires.draft.narrow some).giver_below, c.requires.rooms)
+
+pub is_dead-requires-clause-taker : goal.is_dead-requires-clause-taker
+is_dead-requires-clause-taker c =
+    let g = c.args.editor.now.now in
+    let some = sym (at_place g c.args.links.now c.args.q c.requires.links c.requires.place) ∙ c.in-Some.is in
+    omega (arith, (link_is g c.args.q c.in-Some.link c.requires.draft.narrow some).taker_below, c.requires.levels.long)
+
+pub is_dead-requires-clause-to : goal.is_dead-requires-clause-to
+is_dead-requires-clause-to c =
+    omega (arith, c.requires.to, c.requires.levels.long)
+
+pub bounds-rooms-link-then-raise : goal.bounds-rooms-link-then-raise
+bounds-rooms-link-then-raise c =
+    let g = c.args.editor.now.now in
+    let some = sym (at_place g c.args.links.now c.args.q c.requires.links c.requires.place) ∙ c.in-Some.is in
     omega (arith, (link_is g c.args.q c.in-Some.link c.requires.draft.narrow some).taker_below, c.requires.rooms, c.raise.ensures.len)
+
+pub returns-then-q-sought-clause-ok : goal.returns-then-q-sought-clause-ok
+returns-then-q-sought-clause-ok c =
+    inl (record {
+      rooms = refl;
+      entries = refl;
+      settled = λ k e other. absurd (other c.if-q-sought.true);
+    })
+
+pub returns-then-is_dead-clause-ok : goal.returns-then-is_dead-clause-ok
+returns-then-is_dead-clause-ok c =
+    let g = c.args.editor.now.now in
+    let s = c.args.sought in
+    let some = sym (at_place g c.args.links.now c.args.q c.requires.links c.requires.place) ∙ c.in-Some.is in
+    inl (record {
+      rooms = refl;
+      entries = refl;
+      settled = dead_settled g c.args.levels.now s.place s.taker c.args.q c.args.rooms.now c.in-Some.link c.requires.levels some (c.is_dead.ensures c.if-is_dead.true);
+    })
 
 pub returns-in_ok-push-clause-ok : goal.returns-in_ok-push-clause-ok
 returns-in_ok-push-clause-ok c =
@@ -47,26 +82,20 @@ returns-in_ok-push-clause-ok c =
     inr (record {
       link = l;
       at = some;
-      other = c.if-q-sought.true;
+      other = c.if-q-sought.false;
       more = c.raise.ensures.more c.if-raise.true;
       set = set;
       listed = subst (λ r. IsPermutation ((r, l.taker) ∷ heap_items c.args.list.now) (heap_items c.push.new.self)) is c.in_ok-push.ensures.permutation;
     })
 
-pub returns-else-q-sought-clause-ok : goal.returns-else-q-sought-clause-ok
-returns-else-q-sought-clause-ok c =
+pub returns-else-raise-clause-ok : goal.returns-else-raise-clause-ok
+returns-else-raise-clause-ok c =
     let g = c.args.editor.now.now in
+    let s = c.args.sought in
     let l = c.in-Some.link in
     let some = sym (at_place g c.args.links.now c.args.q c.requires.links c.requires.place) ∙ c.in-Some.is in
-    elim c.else-q-sought.branch [
-      | else-q-sought-via-then-q-sought+else-raise w ↦ inl (record {
-        rooms = w.rooms-is ∙ w.raise.ensures.kept w.if-raise.false;
-        entries = refl;
-        settled = kept_enough g c.args.sought.place c.args.sought.taker c.args.q c.args.rooms.now l some (w.raise.ensures.enough w.if-raise.false);
-      })
-      | else-q-sought-via-else-q-sought w ↦ inl (record {
-        rooms = w.rooms-is;
-        entries = refl;
-        settled = λ k e other. absurd (other w.if-q-sought.false);
-      })
-    ]
+    inl (record {
+      rooms = c.raise.ensures.kept c.if-raise.false;
+      entries = refl;
+      settled = kept_enough g s.place s.taker c.args.q c.args.rooms.now l some (c.raise.ensures.enough c.if-raise.false);
+    })
