@@ -5,7 +5,7 @@ use Rattle.std.proofs.lemmas.List.Sums.{sum_by-cons}
 use Rattle.stg_net.specs.Graph.{Graph}
 use Rattle.stg_redundant.specs.declared.chains.Link.{Link}
 use Rattle.stg_redundant.specs.declared.levels.Levels.{Levels}
-use Rattle.stg_redundant.specs.inner.Chains.{link_at, IsPath, tokens_on, HasPath, IsSettled, IsAmong}
+use Rattle.stg_redundant.specs.inner.Chains.{link_at, IsPath, tokens_on, HasPath, IsRelaxed, IsAmong}
 use Rattle.stg_redundant.specs.inner.Levelled.{IsLevelled, IsDead}
 use Rattle.stg_redundant.proofs.LinkPaths.{one_link}
 
@@ -49,12 +49,12 @@ dead_end g v p b room l w (inr dead) h = go h.path h.leads h.few
     go (k ∷ path) leads few =
         absurd (omega (arith, dead.1, path_grows g v p b w k path l.taker leads, mul-le-mul_left {m = tokens_on (k ∷ path)} {n = room - l.tokens - 1} v.fall (omega (arith, few))))
 
--- so a dead link is settled
-pub dead_settled : (g : Graph) (v : Levels) (p b q : ℕ) (rooms : List ℕ) (k : Link) → IsLevelled g v
+-- so a dead link is relaxed
+pub dead_relaxed : (g : Graph) (v : Levels) (p b q : ℕ) (rooms : List ℕ) (k : Link) → IsLevelled g v
     → link_at g q ≡ Some k → IsDead v k b (get_or rooms k.giver 0)
-    → (l : Link) → link_at g q ≡ Some l → q ≢ p → IsSettled g p b rooms l
-dead_settled g v p b q rooms k w at dead l e other =
-    subst (IsSettled g p b rooms) (one_link g q k l at e) (λ h. absurd (dead_end g v p b (get_or rooms k.giver 0) k w dead h))
+    → (l : Link) → link_at g q ≡ Some l → q ≢ p → IsRelaxed g p b rooms l
+dead_relaxed g v p b q rooms k w at dead l e other =
+    subst (IsRelaxed g p b rooms) (one_link g q k l at e) (λ h. absurd (dead_end g v p b (get_or rooms k.giver 0) k w dead h))
 
 -- the links that leave t but those at the places that are left, and that of p, lead to no path to b
 abbrev pub AreShut : Graph → ℕ → ℕ → ℕ → ℕ → List (ℕ × ℕ) → Type 0

@@ -10,7 +10,7 @@ use Rattle.stg_contract.proofs.DummyTests.{taken_below}
 use Rattle.stg_redundant.specs.declared.chains.Link.{Link}
 use Rattle.stg_redundant.specs.declared.levels.Levels.{Levels}
 use Rattle.stg_redundant.specs.inner.Chains.{link_at, all_links}
-use Rattle.stg_redundant.specs.inner.Levelled.{IsWithin, Grows, Grow, IsLevelled}
+use Rattle.stg_redundant.specs.inner.Levelled.{HasBothEnds, Grows, Grow, IsLevelled}
 use Rattle.stg_redundant.proofs.LinkPaths.{link_is}
 
 -- a greater fall is enough too
@@ -47,11 +47,11 @@ as_many g links e = ap length e ∙ length-map-range_with_len (link_at g) 0 (len
 
 -- both ends of all links are there
 pub links_within : (g : Graph) (links : List (Option Link)) (n : ℕ) → IsWeightlessPastLast g → links ≡ all_links g
-    → n ≡ length g.trans → All (λ o. IfSome o (IsWithin n)) links
+    → n ≡ length g.trans → All (λ o. IfSome o (HasBothEnds n)) links
 links_within g links n narrow e long k d low =
-    subst (λ x. IfSome x (IsWithin n)) (sym (at_below g links k d e (omega (arith, low, as_many g links e)))) (go (link_at g k) refl)
+    subst (λ x. IfSome x (HasBothEnds n)) (sym (at_below g links k d e (omega (arith, low, as_many g links e)))) (go (link_at g k) refl)
   where
-    go : (o : Option Link) → link_at g k ≡ o → IfSome o (IsWithin n)
+    go : (o : Option Link) → link_at g k ≡ o → IfSome o (HasBothEnds n)
     go None f = tt
     go (Some l) f = let at = link_is g k l narrow f in (omega (arith, at.giver_below, long), omega (arith, at.taker_below, long))
 

@@ -9,7 +9,7 @@ use Rattle.stg_edit.specs.Drafts.{IsWeightlessPastLast}
 use Rattle.stg_contract.proofs.DummyTests.{taken_below}
 use Rattle.stg_contract.proofs.LeftPlaces.{place_below}
 use Rattle.stg_redundant.specs.declared.chains.Link.{Link}
-use Rattle.stg_redundant.specs.inner.Chains.{link_at, links_below, all_links, IsAmong, IsSettled, IsKept}
+use Rattle.stg_redundant.specs.inner.Chains.{link_at, links_below, all_links, IsAmong, IsRelaxed, IsKept}
 use Rattle.stg_redundant.proofs.LinkPaths.{none_some, one_link, link_is}
 
 -- each live place has an entry
@@ -28,15 +28,15 @@ pub kept_without : (g : Graph) (p b q : ℕ) (rooms : List ℕ) (entries : List 
 kept_without g p b q rooms entries none = record {
   rooms = refl;
   entries = refl;
-  settled = λ l e other. absurd (none_some l (sym none ∙ e));
+  relaxed = λ l e other. absurd (none_some l (sym none ∙ e));
 }
 
--- a link at whose end the room is enough is settled
+-- a link at whose end the room is enough is relaxed
 pub kept_enough : (g : Graph) (p b q : ℕ) (rooms : List ℕ) (k : Link) → link_at g q ≡ Some k
     → get_or rooms k.giver 0 ≤ get_or rooms k.taker 0 + k.tokens
-    → (l : Link) → link_at g q ≡ Some l → q ≢ p → IsSettled g p b rooms l
+    → (l : Link) → link_at g q ≡ Some l → q ≢ p → IsRelaxed g p b rooms l
 kept_enough g p b q rooms k at enough l e other =
-    subst (IsSettled g p b rooms) (one_link g q k l at e) (λ h. enough)
+    subst (IsRelaxed g p b rooms) (one_link g q k l at e) (λ h. enough)
 
 -- a number with a weight is among those that a walk gives
 among_from : (w : ℕ → ℕ) (k m a : ℕ) → a ≤ k → k < a + m → 0 < w k → IsAmong k (weighted_from w a m)

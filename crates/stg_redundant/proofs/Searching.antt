@@ -9,7 +9,7 @@ use Rattle.std.proofs.lemmas.List.Sums.{sum_by-cons, sum_by-set, sum_by_push}
 use Rattle.stg_net.specs.Graph.{Graph, IsTrans}
 use Rattle.stg_edit.specs.Drafts.{IsWeightlessPastLast, IsWeightlessWhereRemoved}
 use Rattle.stg_redundant.specs.declared.chains.Link.{Link}
-use Rattle.stg_redundant.specs.inner.Chains.{link_at, IsPath, tokens_on, HasPath, AreReached, IsListed, AreLive, IsSettled, AreSettled, IsAmong, IsRaised, IsVisited, effort, IsFollowed, IsSearch}
+use Rattle.stg_redundant.specs.inner.Chains.{link_at, IsPath, tokens_on, HasPath, AreReached, IsListed, AreEntriesLive, IsRelaxed, AreRelaxed, IsAmong, IsRaised, IsVisited, effort, ArePassed, IsSearch}
 use Rattle.stg_redundant.proofs.LinkPaths.{link_is, taker_live, link_place, one_link}
 
 -- a path that goes on along one more link
@@ -28,25 +28,25 @@ longer g p a l all room h at other = record {
   few = omega (arith, h.few, sum_by_push (λ (x : Link). x.tokens) h.path l);
 }
 
--- where each link is settled, room for a path to b leaves room at b
-room_goes_on : (g : Graph) (p b : ℕ) (rooms : List ℕ) → AreSettled g p b rooms (λ l. ⊥)
+-- where each link is relaxed, room for a path to b leaves room at b
+room_goes_on : (g : Graph) (p b : ℕ) (rooms : List ℕ) → AreRelaxed g p b rooms (λ l. ⊥)
     → (path : List Link) (a : ℕ) → IsPath g p a b path → tokens_on path + 1 ≤ get_or rooms a 0
     → 0 < get_or rooms b 0
 room_goes_on g p b rooms all [] a e room = omega (arith, room, ap (λ j. get_or rooms j 0) e)
 room_goes_on g p b rooms all (l ∷ path) a leads room = elim (all l leads.0 leads.1) [
   | inl never ↦ absurd never
-  | inr settled ↦
+  | inr relaxed ↦
       let here : tokens_on path + (l.tokens + 1) ≤ get_or rooms l.giver 0 = omega (arith, room, sum_by-cons (λ (x : Link). x.tokens) l path, ap (λ j. get_or rooms j 0) leads.2) in
-      let kept = settled (record { path = path; leads = leads.3; few = here }) in
+      let kept = relaxed (record { path = path; leads = leads.3; few = here }) in
       room_goes_on g p b rooms all path l.taker leads.3 (omega (arith, kept, here))
 ]
 
--- a search without entries has settled each link
+-- a search without entries has relaxed each link
 pub no_entries : (g : Graph) (p a b all : ℕ) (rooms : List ℕ) → IsSearch g p a b all rooms []
-    → AreSettled g p b rooms (λ l. ⊥)
-no_entries g p a b all rooms s l at other = elim (s.settled l at other) [
+    → AreRelaxed g p b rooms (λ l. ⊥)
+no_entries g p a b all rooms s l at other = elim (s.relaxed l at other) [
   | inl listed ↦ absurd (omega (arith, listed.1))
-  | inr settled ↦ inr settled
+  | inr relaxed ↦ inr relaxed
 ]
 
 -- where it ends without room at b, no path holds at most so much
@@ -64,7 +64,7 @@ found g p a b most rooms entries s some =
 -- at first all links at which t gives are left
 pub following : (g : Graph) (p b t : ℕ) (left : List (ℕ × ℕ)) (rooms : List ℕ) (entries : List (ℕ × ℕ))
     → ((l : Link) → link_at g l.place ≡ Some l → l.giver ≡ t → IsAmong l.place left)
-    → IsFollowed g p b t left rooms rooms entries entries
+    → ArePassed g p b t left rooms rooms entries entries
 following g p b t left rooms entries among = record {
   long = refl;
   small = λ all few. few;
@@ -72,10 +72,10 @@ following g p b t left rooms entries among = record {
   live = λ each. each;
   reached = λ a all r. r;
   spent = λ all few. omega arith;
-  settled = λ before l at other. elim (before l at other) [
+  relaxed = λ before l at other. elim (before l at other) [
     | inl (inl listed) ↦ inl (inl listed)
     | inl (inr e) ↦ inl (inr (e, among l at e))
-    | inr settled ↦ inr settled
+    | inr relaxed ↦ inr relaxed
   ];
 }
 
@@ -87,10 +87,10 @@ set_small all xs t v few small k d low = elim (cases_eq k t) [
   | inr n ↦ omega (arith, get_or-set_other xs t k v d n, small k d (omega (arith, low, length-set xs t v)))
 ]
 
--- a place whose link is settled is visited
+-- a place whose link is relaxed is visited
 followed-kept : (g : Graph) (p b t : ℕ) (x : ℕ × ℕ) (left : List (ℕ × ℕ)) (old now : List ℕ) (before mid : List (ℕ × ℕ))
-    → ((l : Link) → link_at g x.0 ≡ Some l → x.0 ≢ p → IsSettled g p b now l)
-    → IsFollowed g p b t (x ∷ left) old now before mid → IsFollowed g p b t left old now before mid
+    → ((l : Link) → link_at g x.0 ≡ Some l → x.0 ≢ p → IsRelaxed g p b now l)
+    → ArePassed g p b t (x ∷ left) old now before mid → ArePassed g p b t left old now before mid
 followed-kept g p b t x left old now before mid here w = record {
   long = w.long;
   small = w.small;
@@ -98,11 +98,11 @@ followed-kept g p b t x left old now before mid here w = record {
   live = w.live;
   reached = w.reached;
   spent = w.spent;
-  settled = λ s l at other. elim (w.settled s l at other) [
+  relaxed = λ s l at other. elim (w.relaxed s l at other) [
     | inl (inl listed) ↦ inl (inl listed)
     | inl (inr (e, inl same)) ↦ inr (here l (ap (link_at g) same ∙ at) (λ f. other (sym same ∙ f)))
     | inl (inr (e, inr later)) ↦ inl (inr (e, later))
-    | inr settled ↦ inr settled
+    | inr relaxed ↦ inr relaxed
   ];
 }
 
@@ -144,14 +144,14 @@ raised_spent all now u v mid after low more few listed = omega (
   few,
 )
 
--- settled links stay so, and those that leave the end of the link are listed
-raised_settled : (g : Graph) (p b t : ℕ) (x : ℕ × ℕ) (left : List (ℕ × ℕ)) (now : List ℕ) (mid after : List (ℕ × ℕ)) (k : Link)
+-- relaxed links stay so, and those that leave the end of the link are listed
+raised_relaxed : (g : Graph) (p b t : ℕ) (x : ℕ × ℕ) (left : List (ℕ × ℕ)) (now : List ℕ) (mid after : List (ℕ × ℕ)) (k : Link)
     → AreEnds g now k → link_at g x.0 ≡ Some k
     → get_or now k.taker 0 + k.tokens < get_or now k.giver 0
     → IsPermutation ((get_or now k.giver 0 - k.tokens, k.taker) ∷ mid) after
-    → AreSettled g p b now (λ l. IsListed mid now l.giver ⊎ ((l.giver ≡ t) × IsAmong l.place (x ∷ left)))
-    → AreSettled g p b (set now k.taker (get_or now k.giver 0 - k.tokens)) (λ l. IsListed after (set now k.taker (get_or now k.giver 0 - k.tokens)) l.giver ⊎ ((l.giver ≡ t) × IsAmong l.place left))
-raised_settled g p b t x left now mid after k ends at more listed s l at_l other =
+    → AreRelaxed g p b now (λ l. IsListed mid now l.giver ⊎ ((l.giver ≡ t) × IsAmong l.place (x ∷ left)))
+    → AreRelaxed g p b (set now k.taker (get_or now k.giver 0 - k.tokens)) (λ l. IsListed after (set now k.taker (get_or now k.giver 0 - k.tokens)) l.giver ⊎ ((l.giver ≡ t) × IsAmong l.place left))
+raised_relaxed g p b t x left now mid after k ends at more listed s l at_l other =
     let u = k.taker in
     let v = get_or now k.giver 0 - k.tokens in
     let new = set now u v in
@@ -166,7 +166,7 @@ raised_settled g p b t x left now mid after k ends at more listed s l at_l other
                 let l_is : k ≡ l = one_link g x.0 k l at (ap (link_at g) here ∙ at_l) in
                 inr (λ h. omega (arith, same, is, ap (λ (y : Link). y.giver) l_is, ap (λ (y : Link). get_or new y.taker 0) l_is, ap (λ (y : Link). get_or now y.giver 0) l_is, ap (λ (y : Link). y.tokens) l_is))
             | inl (inr (e, inr rest)) ↦ inl (inr (e, rest))
-            | inr settled ↦ inr (λ h. omega (arith, same, rises l.taker, settled (subst (λ r. HasPath g p l.taker b r (l.tokens + 1)) same h)))
+            | inr relaxed ↦ inr (λ h. omega (arith, same, rises l.taker, relaxed (subst (λ r. HasPath g p l.taker b r (l.tokens + 1)) same h)))
           ]
     ]
   where
@@ -182,14 +182,14 @@ raised_settled g p b t x left now mid after k ends at more listed s l at_l other
 -- a place at the end of whose link the room rises is visited
 followed-raised : (g : Graph) (p b t : ℕ) (x : ℕ × ℕ) (left : List (ℕ × ℕ)) (old now new : List ℕ) (before mid after : List (ℕ × ℕ))
     → (r : IsRaised g p x.0 now new mid after) → AreEnds g now r.link
-    → IsFollowed g p b t (x ∷ left) old now before mid → IsFollowed g p b t left old new before after
+    → ArePassed g p b t (x ∷ left) old now before mid → ArePassed g p b t left old new before after
 followed-raised g p b t x left old now new before mid after r ends w =
     let l = r.link in
     let u = l.taker in
     let v = get_or now l.giver 0 - l.tokens in
     let place : x.0 ≡ l.place = sym (link_place g x.0 l r.at) in
     let at : link_at g l.place ≡ Some l = ap (link_at g) (sym place) ∙ r.at in
-    subst (λ rooms. IsFollowed g p b t left old rooms before after) (sym r.set) (record {
+    subst (λ rooms. ArePassed g p b t left old rooms before after) (sym r.set) (record {
       long = length-set now u v ∙ w.long;
       small = λ all few. set_small all now u v (omega (arith, w.small all few l.giver 0 ends.giver)) (w.small all few);
       grown = λ j. elim (cases_eq j u) [
@@ -199,18 +199,18 @@ followed-raised g p b t x left old now new before mid after r ends w =
       live = λ each. All-permutation (λ (y : ℕ × ℕ). IsTrans g y.1) ((v, u) ∷ mid) after r.listed (All-cons (λ (y : ℕ × ℕ). IsTrans g y.1) (v, u) mid ends.live (w.live each));
       reached = λ a all s. raised_reached g p a all now l ends at (λ e. r.other (place ∙ e)) r.more (w.reached a all s);
       spent = λ all few. omega (arith, w.spent all few, raised_spent all now u v mid after ends.taker (omega (arith, r.more)) (omega (arith, w.small all few l.giver 0 ends.giver)) r.listed);
-      settled = λ s. raised_settled g p b t x left now mid after l ends r.at r.more r.listed (w.settled s);
+      relaxed = λ s. raised_relaxed g p b t x left now mid after l ends r.at r.more r.listed (w.relaxed s);
     })
 
 -- a place that is visited
 pub visited : (g : Graph) (p b t : ℕ) (x : ℕ × ℕ) (all left : List (ℕ × ℕ)) (old now new : List ℕ) (before mid after : List (ℕ × ℕ))
     → IsWeightlessPastLast g → IsWeightlessWhereRemoved g → length now ≡ length g.trans → all ≡ x ∷ left
     → IsVisited g p b x.0 now new mid after
-    → IsFollowed g p b t all old now before mid → IsFollowed g p b t left old new before after
-visited g p b t x all left old now new before mid after narrow gone long split v w = go v (subst (λ xs. IsFollowed g p b t xs old now before mid) split w)
+    → ArePassed g p b t all old now before mid → ArePassed g p b t left old new before after
+visited g p b t x all left old now new before mid after narrow gone long split v w = go v (subst (λ xs. ArePassed g p b t xs old now before mid) split w)
   where
-    go : IsVisited g p b x.0 now new mid after → IsFollowed g p b t (x ∷ left) old now before mid → IsFollowed g p b t left old new before after
-    go (inl k) w = subst (λ rooms. IsFollowed g p b t left old rooms before after) (sym k.rooms) (subst (IsFollowed g p b t left old now before) (sym k.entries) (followed-kept g p b t x left old now before mid k.settled w))
+    go : IsVisited g p b x.0 now new mid after → ArePassed g p b t (x ∷ left) old now before mid → ArePassed g p b t left old new before after
+    go (inl k) w = subst (λ rooms. ArePassed g p b t left old rooms before after) (sym k.rooms) (subst (ArePassed g p b t left old now before) (sym k.entries) (followed-kept g p b t x left old now before mid k.relaxed w))
     go (inr r) w =
         let at = link_is g x.0 r.link narrow r.at in
         followed-raised g p b t x left old now new before mid after r (record { giver = omega (arith, at.giver_below, long); taker = omega (arith, at.taker_below, long); live = taker_live g x.0 r.link narrow gone r.at }) w
@@ -222,14 +222,14 @@ cons_case x xs y (suc k, low, e) = inr (k, omega (arith, low), e)
 
 -- the transition of an entry that is taken is live
 pub popped_live : (g : Graph) (entries rest : List (ℕ × ℕ)) (x : ℕ × ℕ) → IsPermutation entries (x ∷ rest)
-    → AreLive g entries → IsTrans g x.1 × AreLive g rest
+    → AreEntriesLive g entries → IsTrans g x.1 × AreEntriesLive g rest
 popped_live g entries rest x popped live =
     let all = All-permutation (λ (y : ℕ × ℕ). IsTrans g y.1) entries (x ∷ rest) popped live in
     (All-head (λ (y : ℕ × ℕ). IsTrans g y.1) x rest all, All-tail (λ (y : ℕ × ℕ). IsTrans g y.1) x rest all)
 
 -- where the links of an entry's transition are visited, the search stands as before
 pub followed_search : (g : Graph) (p a b all : ℕ) (rooms new : List ℕ) (entries rest after : List (ℕ × ℕ)) (x : ℕ × ℕ)
-    → IsPermutation entries (x ∷ rest) → IsFollowed g p b x.1 [] rooms new rest after
+    → IsPermutation entries (x ∷ rest) → ArePassed g p b x.1 [] rooms new rest after
     → IsSearch g p a b all rooms entries → IsSearch g p a b all new after
 followed_search g p a b all rooms new entries rest after x popped f s = record {
   long = f.long ∙ s.long;
@@ -237,20 +237,20 @@ followed_search g p a b all rooms new entries rest after x popped f s = record {
   first = omega (arith, s.first, f.grown a);
   live = f.live (popped_live g entries rest x popped s.live).1;
   reached = f.reached a all s.reached;
-  settled = λ l at other. elim (f.settled before l at other) [
+  relaxed = λ l at other. elim (f.relaxed before l at other) [
     | inl (inl listed) ↦ inl listed
     | inl (inr (e, never)) ↦ absurd never
-    | inr settled ↦ inr settled
+    | inr relaxed ↦ inr relaxed
   ];
 }
   where
-    before : AreSettled g p b rooms (λ l. IsListed rest rooms l.giver ⊎ (l.giver ≡ x.1))
-    before l at other = elim (s.settled l at other) [
+    before : AreRelaxed g p b rooms (λ l. IsListed rest rooms l.giver ⊎ (l.giver ≡ x.1))
+    before l at other = elim (s.relaxed l at other) [
       | inl listed ↦ elim (cons_case x rest (get_or rooms l.giver 0, l.giver) (Contains-permutation entries (x ∷ rest) (get_or rooms l.giver 0, l.giver) popped listed)) [
         | inl e ↦ inl (inr (sym (ap (λ (y : ℕ × ℕ). y.1) e)))
         | inr rest ↦ inl (inl rest)
       ]
-      | inr settled ↦ inr settled
+      | inr relaxed ↦ inr relaxed
     ]
 
 -- where an entry isn't the room of its transition, the search stands without it
@@ -263,12 +263,12 @@ stale_search g p a b all rooms entries rest x popped stale s = record {
   first = s.first;
   live = (popped_live g entries rest x popped s.live).1;
   reached = s.reached;
-  settled = λ l at other. elim (s.settled l at other) [
+  relaxed = λ l at other. elim (s.relaxed l at other) [
     | inl listed ↦ elim (cons_case x rest (get_or rooms l.giver 0, l.giver) (Contains-permutation entries (x ∷ rest) (get_or rooms l.giver 0, l.giver) popped listed)) [
       | inl e ↦ absurd (stale (ap (λ (y : ℕ × ℕ). y.0) e ∙ sym (ap (λ (y : ℕ × ℕ). get_or rooms y.1 0) e)))
       | inr rest ↦ inl rest
     ]
-    | inr settled ↦ inr settled
+    | inr relaxed ↦ inr relaxed
   ];
 }
 
@@ -290,7 +290,7 @@ starting g p a b all zeros entries none low long live listed =
         | inl e ↦ record { path = []; leads = sym e; few = omega (arith, is, ap (λ j. get_or (set zeros a all) j 0) e) }
         | inr n ↦ absurd (omega (arith, some, get_or-set_other zeros a t all 0 n, zero_at zeros none t))
       ];
-      settled = λ l at other. elim (cases_eq l.giver a) [
+      relaxed = λ l at other. elim (cases_eq l.giver a) [
         | inl e ↦ inl (subst (λ j. Contains entries (get_or (set zeros a all) j 0, j)) (sym e) (subst (λ r. Contains entries (r, a)) (sym is) (Contains-permutation ((all, a) ∷ []) entries (all, a) listed (0, omega arith, refl))))
         | inr n ↦ inr (λ h. omega (arith, get_or-set_other zeros a l.giver all 0 n, zero_at zeros none l.giver))
       ];

@@ -1,4 +1,4 @@
--- What the functions within the crate ensure: tests and searches over lists, and sums along links.
+-- What the functions within the crate ensure: tests and searches over lists, rooms and levels.
 pub mod Tests
 pub mod Searches
 pub mod Chains

@@ -36,7 +36,7 @@ fn fall_along(numbers: &[u32], link: Link) -> Option<u64>
 
 /// The least fall that is at least so much and enough for what stands at a place.
 fn fall_past(numbers: &[u32], link: Option<Link>, fall: u64) -> Option<u64>
-    requires { IfSome link (levelled.IsWithin (length numbers.now)) }
+    requires { IfSome link (levelled.HasBothEnds (length numbers.now)) }
     ensures more { IfSome result (λ new. fall ≤ new) }
     ensures grows { IfSome result (λ new. IfSome link (levelled.Grows numbers.now 1 new)) }
 {
@@ -54,7 +54,7 @@ fn fall_past(numbers: &[u32], link: Option<Link>, fall: u64) -> Option<u64>
 
 /// The fall that is enough for all links, where there is one.
 fn fall_of(numbers: &[u32], links: &[Option<Link>]) -> Option<u64>
-    requires { All (λ o. IfSome o (levelled.IsWithin (length numbers.now))) links.now }
+    requires { All (λ o. IfSome o (levelled.HasBothEnds (length numbers.now))) links.now }
     ensures { IfSome result (λ fall. levelled.Grow numbers.now 1 fall links.now) }
 {
     let mut fall = 0;

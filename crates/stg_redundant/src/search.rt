@@ -87,7 +87,7 @@ fn follow(
     requires levels { IsLevelled editor.now.now levels.now }
     requires to { sought.taker < length editor.now.now.trans }
     requires rooms { length rooms.old ≡ length editor.now.now.trans }
-    ensures ok { OnOk result (chains.IsFollowed editor.now.now sought.place sought.taker t []
+    ensures ok { OnOk result (chains.ArePassed editor.now.now sought.place sought.taker t []
         rooms.old rooms.new (heap_items list.old) (heap_items list.new)) }
     ensures len { length rooms.new ≡ length rooms.old }
 {

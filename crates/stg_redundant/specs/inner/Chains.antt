@@ -51,32 +51,34 @@ abbrev pub IsListed : List (ℕ × ℕ) → List ℕ → ℕ → Type 0
 IsListed entries rooms t = Contains entries (slice_index rooms t, t)
 
 -- the entries are of live transitions
-abbrev pub AreLive : Graph → List (ℕ × ℕ) → Type 0
-AreLive g entries = All (λ (x : ℕ × ℕ). IsTrans g x.1) entries
+abbrev pub AreEntriesLive : Graph → List (ℕ × ℕ) → Type 0
+AreEntriesLive g entries = All (λ (x : ℕ × ℕ). IsTrans g x.1) entries
 
 -- where the link goes on to b, the room at its end is not less than it leaves
-abbrev pub IsSettled : Graph → ℕ → ℕ → List ℕ → Link → Type 0
-IsSettled g p b rooms l = HasPath g p l.taker b (slice_index rooms l.giver) (l.tokens + 1)
+abbrev pub IsRelaxed : Graph → ℕ → ℕ → List ℕ → Link → Type 0
+IsRelaxed g p b rooms l = HasPath g p l.taker b (slice_index rooms l.giver) (l.tokens + 1)
     → slice_index rooms l.giver ≤ slice_index rooms l.taker + l.tokens
 
--- each link but that of p is settled or excused
-abbrev pub AreSettled : Graph → ℕ → ℕ → List ℕ → (Link → Type 0) → Type 0
-AreSettled g p b rooms IsExcused = (l : Link) → link_at g l.place ≡ Some l → l.place ≢ p
-    → IsExcused l ⊎ IsSettled g p b rooms l
+-- each link but that of p is relaxed or excused
+abbrev pub AreRelaxed : Graph → ℕ → ℕ → List ℕ → (Link → Type 0) → Type 0
+AreRelaxed g p b rooms IsExcused = (l : Link) → link_at g l.place ≡ Some l → l.place ≢ p
+    → IsExcused l ⊎ IsRelaxed g p b rooms l
 
 -- the number is one of those with a weight
 abbrev pub IsAmong : ℕ → List (ℕ × ℕ) → Type 0
 IsAmong q [] = ⊥
 IsAmong q (x ∷ xs) = (x.0 ≡ q) ⊎ IsAmong q xs
 
--- nothing changes, for the link at q is settled
-pub record IsKept (g : Graph) (p b q : ℕ) (old new : List ℕ) (before after : List (ℕ × ℕ)) : Type 0 where
+-- nothing changes, for the link at q is relaxed
+pub record IsKept (g : Graph) (p b q : ℕ) (old new : List ℕ) (before after : List (ℕ × ℕ))
+    : Type 0 where
   pub rooms : new ≡ old
   pub entries : after ≡ before
-  pub settled : (l : Link) → link_at g q ≡ Some l → q ≢ p → IsSettled g p b old l
+  pub relaxed : (l : Link) → link_at g q ≡ Some l → q ≢ p → IsRelaxed g p b old l
 
 -- the room at the end of the link at q rises to what the link leaves, and is listed
-pub record IsRaised (g : Graph) (p q : ℕ) (old new : List ℕ) (before after : List (ℕ × ℕ)) : Type 0 where
+pub record IsRaised (g : Graph) (p q : ℕ) (old new : List ℕ) (before after : List (ℕ × ℕ))
+    : Type 0 where
   pub link : Link
   pub at : link_at g q ≡ Some link
   pub other : q ≢ p
@@ -94,21 +96,25 @@ abbrev pub effort : ℕ → List ℕ → List (ℕ × ℕ) → ℕ
 effort all rooms entries = sum_by (λ room. all - room) rooms + length entries
 
 -- the links that leave t are visited, but those at the places that are left
-pub record IsFollowed (g : Graph) (p b t : ℕ) (left : List (ℕ × ℕ)) (old new : List ℕ) (before after : List (ℕ × ℕ)) : Type 0 where
+pub record ArePassed (g : Graph) (p b t : ℕ) (left : List (ℕ × ℕ)) (old new : List ℕ)
+    (before after : List (ℕ × ℕ)) : Type 0 where
   pub long : length new ≡ length old
   pub small : (all : ℕ) → All (λ room. room ≤ all) old → All (λ room. room ≤ all) new
   pub grown : (u : ℕ) → slice_index old u ≤ slice_index new u
-  pub live : AreLive g before → AreLive g after
+  pub live : AreEntriesLive g before → AreEntriesLive g after
   pub reached : (a all : ℕ) → AreReached g p a all old → AreReached g p a all new
-  pub spent : (all : ℕ) → All (λ room. room ≤ all) old → effort all new after ≤ effort all old before
-  pub settled : AreSettled g p b old (λ l. IsListed before old l.giver ⊎ (l.giver ≡ t))
-      → AreSettled g p b new (λ l. IsListed after new l.giver ⊎ ((l.giver ≡ t) × IsAmong l.place left))
+  pub spent : (all : ℕ) → All (λ room. room ≤ all) old
+      → effort all new after ≤ effort all old before
+  pub relaxed : AreRelaxed g p b old (λ l. IsListed before old l.giver ⊎ (l.giver ≡ t))
+      → AreRelaxed g p b new
+      (λ l. IsListed after new l.giver ⊎ ((l.giver ≡ t) × IsAmong l.place left))
 
 -- how a search from a stands, with so much room of all links but that of p
-pub record IsSearch (g : Graph) (p a b all : ℕ) (rooms : List ℕ) (entries : List (ℕ × ℕ)) : Type 0 where
+pub record IsSearch (g : Graph) (p a b all : ℕ) (rooms : List ℕ)
+    (entries : List (ℕ × ℕ)) : Type 0 where
   pub long : length rooms ≡ length g.trans
   pub small : All (λ room. room ≤ all) rooms
   pub first : all ≤ slice_index rooms a
-  pub live : AreLive g entries
+  pub live : AreEntriesLive g entries
   pub reached : AreReached g p a all rooms
-  pub settled : AreSettled g p b rooms (λ l. IsListed entries rooms l.giver)
+  pub relaxed : AreRelaxed g p b rooms (λ l. IsListed entries rooms l.giver)

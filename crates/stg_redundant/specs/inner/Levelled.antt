@@ -6,8 +6,8 @@ use Rattle.stg_redundant.specs.declared.levels.Levels.{Levels}
 use Rattle.stg_redundant.specs.inner.Chains.{link_at}
 
 -- both ends of the link are there
-abbrev pub IsWithin : ℕ → Link → Type 0
-IsWithin n l = (l.giver < n) × (l.taker < n)
+abbrev pub HasBothEnds : ℕ → Link → Type 0
+HasBothEnds n l = (l.giver < n) × (l.taker < n)
 
 -- along the link the level grows by `rise`, less `fall` for each token
 abbrev pub Grows : List ℕ → ℕ → ℕ → Link → Type 0

@@ -3,7 +3,7 @@ use Rattle.std.specs.BinaryHeap.{heap_items}
 use Rattle.std.specs.List.Sorted.{IsPermutation}
 use Rattle.std.proofs.lemmas.List.{get_or-set_same}
 use Rattle.stg_redundant.proofs.LinkPaths.{link_is}
-use Rattle.stg_redundant.proofs.DeadEnds.{dead_settled}
+use Rattle.stg_redundant.proofs.DeadEnds.{dead_relaxed}
 use Rattle.stg_redundant.proofs.LinkTables.{in_table, at_place, kept_without, kept_enough}
 use Rattle.stg_redundant.proofs.search.visit.Goals as goal
 
@@ -55,7 +55,7 @@ returns-then-q-sought-clause-ok c =
     inl (record {
       rooms = refl;
       entries = refl;
-      settled = λ k e other. absurd (other c.if-q-sought.true);
+      relaxed = λ k e other. absurd (other c.if-q-sought.true);
     })
 
 pub returns-then-is_dead-clause-ok : goal.returns-then-is_dead-clause-ok
@@ -66,7 +66,7 @@ returns-then-is_dead-clause-ok c =
     inl (record {
       rooms = refl;
       entries = refl;
-      settled = dead_settled g c.args.levels.now s.place s.taker c.args.q c.args.rooms.now c.in-Some.link c.requires.levels some (c.is_dead.ensures c.if-is_dead.true);
+      relaxed = dead_relaxed g c.args.levels.now s.place s.taker c.args.q c.args.rooms.now c.in-Some.link c.requires.levels some (c.is_dead.ensures c.if-is_dead.true);
     })
 
 pub returns-in_ok-push-clause-ok : goal.returns-in_ok-push-clause-ok
@@ -97,5 +97,5 @@ returns-else-raise-clause-ok c =
     inl (record {
       rooms = c.raise.ensures.kept c.if-raise.false;
       entries = refl;
-      settled = kept_enough g s.place s.taker c.args.q c.args.rooms.now l some (c.raise.ensures.enough c.if-raise.false);
+      relaxed = kept_enough g s.place s.taker c.args.q c.args.rooms.now l some (c.raise.ensures.enough c.if-raise.false);
     })
