@@ -190,7 +190,9 @@ fn may_leave(editor: &Editor, links: &[Option<Link>], levels: &Levels, sought: L
 }
 
 /// Whether links but the sought one lead from its giver to its taker with at most its tokens. The
-/// rooms, one for each transition, and the list are set anew.
+/// rooms, one for each transition, and the list are set anew, where the levels leave it open. Each
+/// transition that is reached within the tokens is then followed once: the greatest room comes
+/// first, and none rises along a link.
 pub fn has_chain(
     editor: &Editor,
     links: &[Option<Link>],
