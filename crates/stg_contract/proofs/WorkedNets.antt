@@ -12,7 +12,7 @@ use Rattle.stg_net.specs.declared.signal.Signal.{Signal}
 use Rattle.stg_net.specs.declared.trans.Edge.{Edge}
 use Rattle.stg_net.specs.declared.trans.TransName.{TransName}
 use Rattle.stg_net.specs.declared.arc.NetArc.{NetArc}
-use Rattle.stg_net.specs.Net.{NetLists, IsNet, IsBefore, IsArcOf, is_edge}
+use Rattle.stg_net.specs.Net.{NetLists, IsNet, IsWithin, IsBefore, IsArcOf, is_edge}
 use Rattle.stg_net.proofs.Edges.{is_edge-itself}
 use Rattle.stg_contract.specs.inner.Worked.{input, named_trans, arc, net, all_pairs, names_differ, trans_differ, is_arc, stands_before, are_labels, are_arcs}
 
@@ -75,6 +75,9 @@ arcs_before a b met = in_order a.place b.place a.trans b.trans a.into b.into met
 is_arc_of : (places trans : ℕ) (a : NetArc) → is_arc places trans a ≡ true → IsArcOf places trans a
 is_arc_of places trans a met = record { place_there = grind (arith, nat_tests); trans_there = grind (arith, nat_tests); positive = grind (arith, nat_tests) }
 
+weight_within : (places trans : ℕ) (a : NetArc) → is_arc places trans a ≡ true → a.weight ≤ PART.weight
+weight_within places trans a met = grind (arith, nat_tests)
+
 module _ (names : List (List ℕ)) (trans : List (ℕ × Edge × ℕ)) (tokens : List ℕ) (arcs : List (ℕ × ℕ × Bool × ℕ)) (labels : are_labels names trans ≡ true) (listed : are_arcs (length trans) tokens arcs ≡ true) where
   -- what the two tests find
   record IsWorked : Type 0 where
@@ -134,6 +137,17 @@ module _ (names : List (List ℕ)) (trans : List (ℕ × Edge × ℕ)) (tokens :
         trans_fit = omega (arith, long, leb-true (length trans) PART.trans w.count_trans);
         places_fit = omega (arith, leb-true (length tokens) PART.places w.places);
       }
+
+  -- and it is within the limits
+  pub net-IsWithin : IsWithin PART (net names trans tokens arcs)
+  net-IsWithin = let w = is_worked in record {
+    signals = omega (arith, length-map names input, leb-true (length names) PART.signals w.signals);
+    trans = omega (arith, length-map trans named_trans, leb-true (length trans) PART.trans w.count_trans);
+    places = leb-true (length tokens) PART.places w.places;
+    arcs = omega (arith, leb-true (length arcs) PART.arcs w.count_arcs, length-map arcs arc);
+    tokens = each (λ k. k ≤ PART.weight) (λ k. nat_le k PART.weight) (λ k found. leb-true k PART.weight found) tokens w.numbers;
+    weights = each (λ (a : NetArc). a.weight ≤ PART.weight) (is_arc (length tokens) (length trans)) (weight_within (length tokens) (length trans)) (map arc arcs) w.each_arc;
+  }
 
 -- nets with equal lists are equal
 pub same_net : (a b : NetLists) → a.signals ≡ b.signals → a.trans ≡ b.trans → a.tokens ≡ b.tokens

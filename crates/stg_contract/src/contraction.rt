@@ -4,7 +4,7 @@ ghost use Rattle.std.specs.Prelude.{◌≡◌, ◌≤◌, ◌<◌, ◌-◌, ◌^
 ghost use Rattle.stg_net.specs.Graph.{IsTrans, IsDummy};
 ghost use Rattle.stg_net.specs.Contraction.{contracted};
 ghost use Rattle.stg_edit.specs.Editing.{IsAsMuch};
-ghost use Rattle.stg_edit.specs.Replacing.{new_places, new_arcs};
+ghost use Rattle.stg_edit.specs.Replacing.{new_places as made_places, new_arcs};
 ghost use Rattle.stg_contract.specs.Verdicts.{IsContractible};
 ghost use Rattle.stg_contract.specs.Room.{spare_after};
 
@@ -13,19 +13,27 @@ use crate::verdict::Cost;
 use crate::walks::count_all;
 use stg_edit::Editor;
 
+/// Counts the places that the contraction of a live transition makes. It takes time for the arcs
+/// of the transition alone.
+pub fn new_places(editor: &Editor, t: u32) -> u32
+    requires { IsTrans editor.now.now t }
+    ensures { result ≡ min (made_places editor.now.now t) (2 ^ 32 - 1) }
+{
+    let before = count_all(editor.takes(t));
+    let after = count_all(editor.gives(t));
+    before.saturating_mul(after).min(u32::MAX as u64) as u32
+}
+
 /// Counts the places and arcs that the contraction of a live transition makes. It looks at each
 /// pair round the transition.
 pub fn cost(editor: &Editor, t: u32) -> Cost
     requires { IsTrans editor.now.now t }
-    ensures places { result.places ≡ min (new_places editor.now.now t) (2 ^ 32 - 1) }
+    ensures places { result.places ≡ min (made_places editor.now.now t) (2 ^ 32 - 1) }
     ensures arcs { result.arcs ≡ min (new_arcs editor.now.now t) (2 ^ 32 - 1) }
 {
-    let before = count_all(editor.takes(t));
-    let after = count_all(editor.gives(t));
-    let places = before.saturating_mul(after).min(u32::MAX as u64);
     let arcs = arcs_round(editor, t).min(u32::MAX as u64);
     Cost {
-        places: places as u32,
+        places: new_places(editor, t),
         arcs: arcs as u32,
     }
 }
@@ -36,7 +44,7 @@ pub fn contract(editor: &mut Editor, t: u32)
     requires dummy { IsDummy editor.old.now t }
     requires contractible { IsContractible editor.old.now t }
     requires room { 0 < editor.old.spare.edits }
-    requires places { new_places editor.old.now t ≤ editor.old.spare.places }
+    requires places { made_places editor.old.now t ≤ editor.old.spare.places }
     requires arcs { new_arcs editor.old.now t ≤ editor.old.spare.arcs }
     ensures now { editor.new.now ≡ contracted editor.old.now t }
     ensures past { editor.new.past ≡ editor.old.past ++ editor.old.now ∷ [] }

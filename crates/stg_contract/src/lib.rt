@@ -21,7 +21,7 @@ mod walks;
 #[cfg(test)]
 mod worked;
 
-pub use contraction::{contract, cost};
+pub use contraction::{contract, cost, new_places};
 pub use judge::{test, test_calm};
 pub use laws::{law_calm, law_one_verdict};
 pub use verdict::{Cost, Verdict};

@@ -209,7 +209,7 @@ pub record IsListed (e : Editing) (own : List ℕ) (n : NetLists) : Type 0 where
   pub arcs_are : n.arcs ≡ all_arcs e.now (live_places e.now) (live_trans e.now)
 
 -- the listed net is that of the draft
-pub listed_is_net_of : (e : Editing) (own : List ℕ) (n : NetLists) → IsListed e own n → IsNetOf e own n
+pub listed_is_net_of : (e : Editing) (own : List ℕ) (n : NetLists) → IsListed e own n → IsNetOf e.signals e.now own n
 listed_is_net_of e own n l = record {
   signals = l.signals_are;
   places = listed_places e.now n (live_places e.now) (live_trans e.now) (places_live e.now) l.tokens_are l.names_are l.arcs_are;

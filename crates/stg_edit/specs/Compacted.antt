@@ -7,7 +7,6 @@ use Rattle.stg_net.specs.Component.{component_signal}
 use Rattle.stg_net.specs.Graph.{Graph, Place, is_among, place_at, full_name_at}
 use Rattle.stg_net.specs.Initial.{graph_of}
 use Rattle.stg_edit.specs.Counted.{live_places}
-use Rattle.stg_edit.specs.Editing.{Editing}
 
 -- the numbers of the live transitions, in ascending order
 abbrev pub live_trans : Graph → List ℕ
@@ -39,8 +38,9 @@ known_signals signals g = filter (λ s. is_among g.known (signal_at signals s).n
 abbrev pub net_signal : List Signal → List ℕ → ℕ → Signal
 net_signal signals own s = component_signal own [] (s, signal_at signals s)
 
--- the net of the draft: the known signals in their order, and the live places and transitions
-pub record IsNetOf (e : Editing) (own : List ℕ) (n : NetLists) : Type 0 where
-  pub signals : n.signals ≡ map (net_signal e.signals own) (known_signals e.signals e.now)
-  pub places : (graph_of n).places ≡ (compacted e.now).places
-  pub trans : (graph_of n).trans ≡ (compacted e.now).trans
+-- the net of a graph of a net with these signals: the known ones in their order, and the live
+-- places and transitions
+pub record IsNetOf (all : List Signal) (g : Graph) (own : List ℕ) (n : NetLists) : Type 0 where
+  pub signals : n.signals ≡ map (net_signal all own) (known_signals all g)
+  pub places : (graph_of n).places ≡ (compacted g).places
+  pub trans : (graph_of n).trans ≡ (compacted g).trans

@@ -353,7 +353,7 @@ impl Editor {
     /// for each live place with each of the net's transitions.
     pub fn net(&self, own: &Nums) -> Result<Net, NoMemory>
         requires { (t : ℕ) → IsDummy self.now.now t → ⊥ }
-        ensures value { IfOk result (λ n. IsNetOf self.now own.now n) }
+        ensures value { IfOk result (λ n. IsNetOf self.now.signals self.now.now own.now n) }
         ensures arcs { IfOk result (λ n. length n.arcs ≡ count_arcs self.now.now) }
     {
         let alloc = self.alloc;

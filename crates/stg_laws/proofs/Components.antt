@@ -98,7 +98,7 @@ module _ (n : NetLists) (net : IsNet n) (own shared : List ℕ) where
   })
 
 -- a signal in order is declared at its old number, and the other way round
-in_old_order : (n : NetLists) (test : Kind → Bool) (s : List ℕ) (r : ℕ) → Declares (ordered n).signals test s r → (k : ℕ) × Declares n.signals test s k
+pub in_old_order : (n : NetLists) (test : Kind → Bool) (s : List ℕ) (r : ℕ) → Declares (ordered n).signals test s r → (k : ℕ) × Declares n.signals test s k
 in_old_order n test s r d =
     let order = signal_order n.signals in
     let is = signal_order-IsOrder n.signals in
@@ -106,7 +106,7 @@ in_old_order n test s r d =
     let same = get_or-map_in (signal_at n.signals) order r 0 no_signal there in
     (get_or order r 0, record { there = order_below (length n.signals) order is r 0 there; passes = rw same at d.passes; named = rw same at d.named })
 
-in_new_order : (n : NetLists) (test : Kind → Bool) (s : List ℕ) (k : ℕ) → IsNet n → Declares n.signals test s k → Declares (ordered n).signals test s (new_number (signal_order n.signals) k)
+pub in_new_order : (n : NetLists) (test : Kind → Bool) (s : List ℕ) (k : ℕ) → IsNet n → Declares n.signals test s k → Declares (ordered n).signals test s (new_number (signal_order n.signals) k)
 in_new_order n test s k net d =
     let order = signal_order n.signals in
     let same = same_signal n net k d.there in
@@ -133,12 +133,12 @@ module _ (own shared : List ℕ) (n : NetLists) where
       ∙ ap (component_signal own shared) (get_or-enumerate_from 0 n.signals k (0, no_signal) there)
       ∙ ap (λ j. component_signal own shared (j, signal_at n.signals k)) (zero-add k)
 
-  declares-component_kind : (test : Kind → Bool) (s : List ℕ) (k : ℕ) → Declares (component own shared n).signals test s k → Declares n.signals (λ kind. test (component_kind own shared k kind)) s k
+  pub declares-component_kind : (test : Kind → Bool) (s : List ℕ) (k : ℕ) → Declares (component own shared n).signals test s k → Declares n.signals (λ kind. test (component_kind own shared k kind)) s k
   declares-component_kind test s k d =
       let there : k < length n.signals = omega (arith, d.there, length-component_signals own shared 0 n.signals) in
       record { there = there; passes = ap (λ (x : Signal). test x.kind) (sym (component_signal-at k there)) ∙ d.passes; named = sym (component_signal-name own shared n k) ∙ d.named }
 
-  kind_given : (test : Kind → Bool) (s : List ℕ) (k : ℕ) → Declares n.signals (λ kind. test (component_kind own shared k kind)) s k → Declares (component own shared n).signals test s k
+  pub kind_given : (test : Kind → Bool) (s : List ℕ) (k : ℕ) → Declares n.signals (λ kind. test (component_kind own shared k kind)) s k → Declares (component own shared n).signals test s k
   kind_given test s k d = record {
     there = omega (arith, d.there, length-component_signals own shared 0 n.signals);
     passes = ap (λ (x : Signal). test x.kind) (component_signal-at k d.there) ∙ d.passes;
@@ -146,21 +146,21 @@ module _ (own shared : List ℕ) (n : NetLists) where
   }
 
 -- what passes as driven is own and driven, and what passes as internal is own and not shared
-driven_own : (a b : Bool) (kind : Kind) → is_driven (cond a (cond b (shared_kind kind) kind) Input) ≡ true → (a ≡ true) × (is_driven kind ≡ true)
+pub driven_own : (a b : Bool) (kind : Kind) → is_driven (cond a (cond b (shared_kind kind) kind) Input) ≡ true → (a ≡ true) × (is_driven kind ≡ true)
 driven_own false b kind e = absurd (false≢true e)
 driven_own true false kind e = (refl, e)
 driven_own true true Input e = absurd (false≢true e)
 driven_own true true Output e = (refl, refl)
 driven_own true true Internal e = (refl, refl)
 
-own_driven : (a b : Bool) (kind : Kind) → a ≡ true → is_driven kind ≡ true → is_driven (cond a (cond b (shared_kind kind) kind) Input) ≡ true
+pub own_driven : (a b : Bool) (kind : Kind) → a ≡ true → is_driven kind ≡ true → is_driven (cond a (cond b (shared_kind kind) kind) Input) ≡ true
 own_driven false b kind e d = absurd (false≢true e)
 own_driven true false kind e d = d
 own_driven true true Input e d = absurd (false≢true d)
 own_driven true true Output e d = refl
 own_driven true true Internal e d = refl
 
-internal_own : (a b : Bool) (kind : Kind) → is_kind Internal (cond a (cond b (shared_kind kind) kind) Input) ≡ true → (a ≡ true) × (b ≡ false)
+pub internal_own : (a b : Bool) (kind : Kind) → is_kind Internal (cond a (cond b (shared_kind kind) kind) Input) ≡ true → (a ≡ true) × (b ≡ false)
 internal_own false b kind e = absurd (false≢true e)
 internal_own true false kind e = (refl, refl)
 internal_own true true Input e = absurd (false≢true e)

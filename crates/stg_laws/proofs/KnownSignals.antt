@@ -78,12 +78,12 @@ passing_contained test (suc n) k below e = elim (cases_lt k n) [
 ]
 
 -- a signal of the list has the name
-record IsNamed (n : NetLists) (signals : List ℕ) (name : List ℕ) : Type 0 where
+pub record IsNamed (n : NetLists) (signals : List ℕ) (name : List ℕ) : Type 0 where
   pub signal : ℕ
   pub listed : Contains signals signal
   pub name_is : (signal_at n.signals signal).name ≡ name
 
-among_named : (n : NetLists) (signals : List ℕ) (name : List ℕ)
+pub among_named : (n : NetLists) (signals : List ℕ) (name : List ℕ)
     → is_among (names_at n signals) name ≡ true → IsNamed n signals name
 among_named n signals name e =
     let f = passing (λ known. bytes_eq known name) (names_at n signals) e in
@@ -94,7 +94,7 @@ among_named n signals name e =
       name_is = sym (get_or-map (λ s. (signal_at n.signals s).name) signals f.at 0 [] inside) ∙ f.item_is [] ∙ (bytes_eq-Decides f.item name).0 f.passes;
     }
 
-named_among : (n : NetLists) (signals : List ℕ) (s : ℕ) → Contains signals s
+pub named_among : (n : NetLists) (signals : List ℕ) (s : ℕ) → Contains signals s
     → is_among (names_at n signals) (signal_at n.signals s).name ≡ true
 named_among n signals s c =
     let name = (signal_at n.signals s).name in

@@ -90,7 +90,7 @@ returns-clause-value c =
     (c.as_slice-2.ensures ∙ c.in_ok-kept.ensures) (c.as_slice-5.ensures ∙ c.in_ok-trans.ensures) (c.as_slice-6.ensures ∙ c.in_ok-places.ensures) (c.as_slice-7.ensures ∙ c.in_ok-places.ensures) (c.as_slice-8.ensures ∙ c.in_ok-trans.ensures)
     (c.in_ok-signals.ensures ∙ (λ i. map (net_signal (c.signals.ensures.value i) (c.as_slice.ensures i)) c.as_slice-2.result.now))
     c.as_slice-3.ensures c.in_ok-names.ensures.names c.in_ok-names.ensures.there c.in_ok-tokens.ensures c.in_ok-arcs.ensures in
-    subst (IsNetOf e c.args.own.now) (sym c.of.ensures) (listed_is_net_of e c.args.own.now n listed)
+    subst (IsNetOf e.signals e.now c.args.own.now) (sym c.of.ensures) (listed_is_net_of e c.args.own.now n listed)
 
 pub returns-clause-arcs : goal.returns-clause-arcs
 returns-clause-arcs c =
