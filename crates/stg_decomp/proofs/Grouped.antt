@@ -1,5 +1,5 @@
 -- The plain groups share out the signals that a specification drives.
-use Rattle.std.proofs.Common.{◌≡◌, ℕ, zero, suc, ◌<◌, ◌≤◌, List, [], length, get_or, Contains, true, refl, sym, ◌∙◌, subst, inl, inr, arith}
+use Rattle.std.proofs.Common.{◌≡◌, ℕ, zero, suc, ◌<◌, ◌≤◌, List, length, get_or, Contains, true, refl, sym, ◌∙◌, subst, inl, inr, arith}
 use Rattle.std.proofs.lemmas.Bool.{cases_order}
 use Rattle.std.proofs.lemmas.List.{get_or_default}
 use Rattle.stg_net.specs.Component.{is_one_of}
@@ -9,10 +9,8 @@ use Rattle.stg_laws.specs.Groups.{least_own, AreJoined}
 use Rattle.stg_laws.specs.Stgs.{is_driven}
 use Rattle.stg_laws.proofs.Declaring.{Declares}
 use Rattle.stg_laws.specs.PlainGroups.{Group, ArePlainGroups}
+use Rattle.stg_decomp.specs.Parts.{no_group}
 use Rattle.stg_laws.proofs.SignalConflicts.{joined_on, joined_back, driven_there}
-
-abbrev pub no_group : Group
-no_group = record { own = []; known = [] }
 
 -- the own signals of the i-th group
 abbrev pub own_at : List Group → ℕ → List ℕ

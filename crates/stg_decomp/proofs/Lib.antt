@@ -1,4 +1,9 @@
-pub mod Examples
-pub mod Meaning
 pub mod Grouped
+pub mod Anys
+pub mod Deriving
+pub mod Replaced
+pub mod SettledSignals
+pub mod SettledNets
+pub mod DerivedParts
+pub mod Meaning
 pub mod ReadBack

@@ -1,38 +1,36 @@
--- The parts of a specification.
-use Rattle.std.specs.Prelude.{◌≡◌, ℕ, nat_lt, List, [], length, map, slice_index_or, if◌then◌else◌}
-use Rattle.std.specs.List.{range_with_len}
+-- The parts of a specification: those of the plain groups' derivations, settled among each other.
+use Rattle.std.specs.Prelude.{◌≡◌, ◌<◌, ℕ, List, [], length, map, slice_index_or}
 use Rattle.stg_net.specs.Net.{NetLists}
-use Rattle.stg_net.specs.Ordered.{ordered}
-use Rattle.stg_net.specs.Component.{component}
 use Rattle.stg_laws.specs.PlainGroups.{Group, ArePlainGroups}
-use Rattle.stg_decomp.specs.declared.part.Part.{Part}
+use Rattle.stg_derive.specs.declared.part.Part.{Part}
+use Rattle.stg_derive.specs.Derivations.{IsDerivedPart}
+use Rattle.stg_decomp.specs.Settled.{no_part, part_at, settled_parts}
 
--- the own signals that another part knows: all of them where there is another part, since each part knows every signal
-abbrev pub shared : ℕ → List ℕ → List ℕ
-shared many own = if nat_lt 1 many then own else []
+-- a group without signals, which stands at no number
+abbrev pub no_group : Group
+no_group = record { own = []; known = [] }
 
--- the part of a group, beside so many parts; it knows every signal
-abbrev pub part_of : NetLists → ℕ → Group → Part
-part_of n many group = record { net = ordered (component group.own (shared many group.own) n); own = group.own; known = range_with_len 0 (length n.signals) }
+-- the group of that number
+abbrev pub group_in : List Group → ℕ → Group
+group_in groups i = slice_index_or groups i no_group
 
--- the parts of the groups, in their order
-abbrev pub parts_of : NetLists → List Group → List Part
-parts_of n groups = map (part_of n (length groups)) groups
+-- the parts are those of the groups' plain derivations, in the order of the groups
+pub record AreDerived (n : NetLists) (groups : List Group) (parts : List Part) : Type 0 where
+  pub as_many : length parts ≡ length groups
+  pub each : (i : ℕ) → i < length groups → IsDerivedPart n (group_in groups i) (part_at parts i)
 
--- the parts are those of the plain groups
+-- the parts are those of the plain groups' derivations, settled among each other
 pub record AreParts (n : NetLists) (parts : List Part) : Type 0 where
   pub groups : List Group
   pub plain : ArePlainGroups n groups
-  pub made : parts ≡ parts_of n groups
+  pub derived : List Part
+  pub are_derived : AreDerived n groups derived
+  pub are_settled : parts ≡ settled_parts derived
 
 -- the nets of the parts
 abbrev pub nets_of : List Part → List NetLists
 nets_of parts = map (λ (p : Part). p.net) parts
 
--- a part without anything, which stands at no number
-abbrev pub no_part : Part
-no_part = record { net = record { signals = []; trans = []; tokens = []; arcs = [] }; own = []; known = [] }
-
--- the part of that number
-abbrev pub part_at : List Part → ℕ → Part
-part_at parts k = slice_index_or parts k no_part
+-- the net of that number
+abbrev pub net_at : List NetLists → ℕ → NetLists
+net_at nets k = slice_index_or nets k no_part.net

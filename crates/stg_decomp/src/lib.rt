@@ -4,9 +4,10 @@
 mod error;
 mod part;
 mod parts;
+mod settle;
 mod text;
 
 pub use error::DecompError;
-pub use part::{Answer, Part};
+pub use part::Answer;
 pub use parts::decompose;
 pub use text::part_text;

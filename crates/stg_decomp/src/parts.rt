@@ -1,95 +1,111 @@
 //! One part for each plain group.
 
-ghost use Rattle.std.specs.Prelude.{◌≡◌, ◌<◌, ◌≤◌, ◌++◌, [], ◌∷◌, ◌↔◌, None, length, All, IfOk, IfSome, OnOk};
-ghost use Rattle.stg_net.specs.Net.{IsWithin};
-ghost use Rattle.stg_net.specs.Names.{IsWellNamed};
+ghost use Rattle.std.specs.Prelude.{◌≡◌, ◌<◌, ◌≤◌, ◌^◌, ◌↔◌, None, length, All, IfOk, IfSome};
+ghost use Rattle.stg_net.specs.declared.limits.TheConstants.Limits.{SPEC, PART};
+ghost use Rattle.stg_net.specs.Net.{IsNet, IsWithin};
 ghost use Rattle.stg_net.specs.Initial.{graph_of};
-ghost use Rattle.stg_laws.specs.Conflict.{HasNoAutoConflict};
+ghost use Rattle.stg_laws.specs.Conflict.{HasNoAutoConflict, IsLeastClash};
 ghost use Rattle.stg_laws.specs.Faithful.{AreComponents};
-ghost use Rattle.stg_laws.specs.Conflict.{IsLeastClash};
+ghost use Rattle.stg_laws.specs.PlainGroups.{ArePlainGroups, AreClosed};
 ghost use Rattle.stg_decomp.specs.Telling.{clash_told};
-ghost use Rattle.stg_decomp.specs.declared.part.Part.{Part};
+ghost use Rattle.stg_derive.specs.declared.part.Part.{Part};
+ghost use Rattle.stg_derive.specs.Derivations.{IsDerivedPart};
+ghost use Rattle.stg_derive.specs.Loggable.{IsLoggable};
+ghost use Rattle.stg_decomp.specs.Parts.{AreDerived, AreParts, nets_of};
+ghost use Rattle.stg_decomp.specs.Parts as parts;
 ghost use Rattle.astg_write.specs.Writable.{IsWritable};
 ghost use Rattle.astg_write.specs.ReadsBack.{AreReadBack};
-ghost use Rattle.stg_decomp.specs.Parts.{AreParts, part_of, nets_of, parts_of};
 
-use crate::{Answer, DecompError, Part};
+use crate::settle::settle_all;
+use crate::{Answer, DecompError};
 use std::alloc::Global;
 use stg_conflict::no_auto_conflict;
-use stg_net::{Limits, Net, NoMemory, Seq, Spec, numbers_below, ordered};
+use stg_derive::{Part, derive};
+use stg_net::{NoMemory, Seq, Spec};
 use stg_partition::{Group, plain_groups};
 
-fn make_part(alloc: Global, net: &Net, group: &Group, many: usize) -> Result<Part, NoMemory>
-    requires within { IsWithin Limits.PART net.now }
-    requires named { IsWellNamed net.now }
-    ensures value { IfOk result (λ part. part ≡ part_of net.now many group.now) }
+/// The group of number i.
+fn group_at(groups: &[Group], i: u32) -> &Group
+    requires { i < length groups.now }
+    ensures { result.now ≡ parts.group_in groups.now i }
+{
+    &groups[i as usize]
+}
+
+/// Derives the part of the group of number i.
+fn derive_one(alloc: Global, spec: &Spec, groups: &[Group], i: u32) -> Result<Part, NoMemory>
+    requires within { IsWithin SPEC spec.now.net }
+    requires plain { ArePlainGroups spec.now.net groups.now }
+    requires closed { AreClosed spec.now.net groups.now }
+    requires no_conflict { HasNoAutoConflict (graph_of spec.now.net) }
+    requires there { i < length groups.now }
+    ensures derived { IfOk result
+        (λ part. IsDerivedPart spec.now.net (parts.group_in groups.now i) part) }
+    ensures net { IfOk result (λ part. IsNet part.net) }
     ensures writable { IfOk result (λ part. IsWritable part.net) }
+    ensures loggable { IfOk result (λ part. IsLoggable spec.now.net part) }
 {
-    let own = Seq::from_slice(alloc, group.own.as_slice())?;
-    let known = numbers_below(alloc, net.signals().len() as u32)?;
-    let shared = if many > 1 { own.as_slice() } else { &[] };
-    let component = net.component(alloc, own.as_slice(), shared)?;
-    let net = ordered(alloc, &component)?;
-    Ok(Part { net, own, known })
+    let part = derive(alloc, spec, group_at(groups, i))?;
+    Ok(part)
 }
 
-fn push_part(
-    alloc: Global,
-    net: &Net,
-    group: &Group,
-    many: usize,
-    parts: &mut Seq<Part>,
-) -> Result<(), NoMemory>
-    requires within { IsWithin Limits.PART net.now }
-    requires named { IsWellNamed net.now }
-    requires so_far { All (λ (part : Part). IsWritable part.net) parts.old }
-    ensures parts { OnOk result (parts.new ≡ parts.old ++ part_of net.now many group.now ∷ []) }
-    ensures writable { OnOk result (All (λ (part : Part). IsWritable part.net) parts.new) }
-{
-    parts.push(make_part(alloc, net, group, many)?)?;
-    Ok(())
-}
-
-fn make_parts(alloc: Global, net: &Net, groups: &[Group]) -> Result<Seq<Part>, NoMemory>
-    requires within { IsWithin Limits.PART net.now }
-    requires named { IsWellNamed net.now }
-    ensures value { IfOk result (λ parts. parts ≡ parts_of net.now groups.now) }
+/// Derives the part of each group, in their order.
+fn derive_all(alloc: Global, spec: &Spec, groups: &[Group]) -> Result<Seq<Part>, NoMemory>
+    requires within { IsWithin SPEC spec.now.net }
+    requires plain { ArePlainGroups spec.now.net groups.now }
+    requires closed { AreClosed spec.now.net groups.now }
+    requires no_conflict { HasNoAutoConflict (graph_of spec.now.net) }
+    requires few { length groups.now < 2 ^ 32 }
+    ensures derived { IfOk result (λ parts. AreDerived spec.now.net groups.now parts) }
+    ensures nets { IfOk result (λ parts. All (λ (part : Part). IsNet part.net) parts) }
     ensures writable { IfOk result (λ parts. All (λ (part : Part). IsWritable part.net) parts) }
+    ensures loggable { IfOk result (λ parts. All (IsLoggable spec.now.net) parts) }
 {
     let mut parts = Seq::new(alloc);
-    for group in groups {
-        push_part(alloc, net, group, groups.len(), &mut parts)?;
+    for i in 0..groups.len() as u32 {
+        let part = derive_one(alloc, spec, groups, i)?;
+        parts.push(part)?;
     }
     Ok(parts)
 }
 
+/// The settled parts of a specification without structural auto-conflicts.
 fn make_answer(alloc: Global, spec: &Spec) -> Result<Answer, NoMemory>
-    requires { IsWithin Limits.SPEC spec.now.net }
+    requires within { IsWithin SPEC spec.now.net }
+    requires no_conflict { HasNoAutoConflict (graph_of spec.now.net) }
     ensures parts { IfOk result (λ answer. AreParts spec.now.net answer.parts) }
-    ensures few { IfOk result (λ answer. length answer.parts ≤ 250) }
-    ensures writable { IfOk result (λ answer. All (λ (part : Part). IsWritable part.net) answer.parts) }
+    ensures few { IfOk result (λ answer. length answer.parts ≤ PART.signals) }
+    ensures writable { IfOk result
+        (λ answer. All (λ (part : Part). IsWritable part.net) answer.parts) }
+    ensures loggable { IfOk result (λ answer. All (IsLoggable spec.now.net) answer.parts) }
     ensures meaning { IfOk result (λ answer. AreComponents spec.now.net (nets_of answer.parts)) }
     ensures reads_back { IfOk result (λ answer. AreReadBack (nets_of answer.parts)) }
 {
+    let _net = spec.net();
     let groups = plain_groups(alloc, spec)?;
-    let parts = make_parts(alloc, spec.net(), groups.as_slice())?;
+    let derived = derive_all(alloc, spec, groups.as_slice())?;
+    let parts = settle_all(alloc, derived)?;
     Ok(Answer { parts })
 }
 
-/// Decomposes a specification: one part for each plain group, in their order. Each part knows every
-/// signal. An own internal signal is an output of its part where another part knows it. Each part's
-/// net has exactly the specification's traces on its signals; together they are a correct
-/// decomposition of it, where it is deterministic. Each net is read back from its text.
+/// Decomposes a specification: one part for each plain group, in their order, which is that of the
+/// group's plain derivation, settled among the others. Each part's net has exactly the
+/// specification's traces on its signals; together they are a correct decomposition of it, where it
+/// is deterministic. Each net can be written and is read back from its text, and the records and
+/// steps of each part can be logged.
 ///
 /// A specification with a structural auto-conflict is answered by the least one.
 pub fn decompose(alloc: Global, spec: &Spec) -> Result<Answer, DecompError>
-    requires { IsWithin Limits.SPEC spec.now.net }
+    requires { IsWithin SPEC spec.now.net }
     ensures parts { IfOk result (λ answer. AreParts spec.now.net answer.parts) }
-    ensures few { IfOk result (λ answer. length answer.parts ≤ 250) }
-    ensures writable { IfOk result (λ answer. All (λ (part : Part). IsWritable part.net) answer.parts) }
+    ensures few { IfOk result (λ answer. length answer.parts ≤ PART.signals) }
+    ensures writable { IfOk result
+        (λ answer. All (λ (part : Part). IsWritable part.net) answer.parts) }
+    ensures loggable { IfOk result (λ answer. All (IsLoggable spec.now.net) answer.parts) }
     ensures meaning { IfOk result (λ answer. AreComponents spec.now.net (nets_of answer.parts)) }
     ensures reads_back { IfOk result (λ answer. AreReadBack (nets_of answer.parts)) }
-    ensures clash { IfSome (clash_told result) (λ c. IsLeastClash (graph_of spec.now.net) c.t1 c.t2 c.place) }
+    ensures clash { IfSome (clash_told result)
+        (λ c. IsLeastClash (graph_of spec.now.net) c.t1 c.t2 c.place) }
     ensures none { clash_told result ≡ None ↔ HasNoAutoConflict (graph_of spec.now.net) }
 {
     match no_auto_conflict(spec.net()) {

@@ -1,0 +1,2 @@
+-- What private functions ensure: parts with other nets.
+pub mod Settling
