@@ -5,7 +5,7 @@ use Rattle.std.proofs.lemmas.Bool.{false≢true}
 use Rattle.desij.specs.Outside.{SeenSource, named}
 use Rattle.desij.specs.Reading.{ReadsUpTo, ReadsWhole, most_read}
 use Rattle.desij.specs.Answering.{HasAnswer}
-use Rattle.stg_decomp.specs.declared.part.Part.{Part}
+use Rattle.stg_derive.specs.declared.part.Part.{Part}
 use Rattle.desij.proofs.AnswerLemmas.{stands_short}
 use Rattle.desij.specs.inner.Ends.{Ends, Finishes}
 use Rattle.desij.specs.Run.{Seen, IsAccepted}

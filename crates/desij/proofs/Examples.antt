@@ -6,9 +6,9 @@ use Rattle.astg_write.specs.ComponentText.{component_text}
 use Rattle.stg_net.specs.declared.limits.TheConstants.Limits.{SPEC}
 use Rattle.astg_read.specs.declared.rule.Rule.TheVariants.{NoGraph}
 use Rattle.astg_read.specs.Reading.{Meaning, Fault, reading}
-use Rattle.stg_laws.specs.PlainGroups.{Group}
-use Rattle.stg_decomp.specs.declared.part.Part.{Part}
-use Rattle.stg_decomp.specs.Parts.{nets_of, parts_of}
+use Rattle.stg_derive.specs.declared.part.Part.{Part}
+use Rattle.stg_decomp.specs.Settled.{no_part, settled}
+use Rattle.stg_decomp.specs.Parts.{nets_of}
 use Rattle.desij.specs.Files.{part_name, net_bytes}
 use Rattle.desij.specs.Words.{file_of}
 use Rattle.desij.specs.Printing.{printed, count_text, signal_counts, net_sizes, part_line}
@@ -27,13 +27,9 @@ c_element = codes ".model c\n"
     ++ codes ".marking { <c-,a+> <c-,b+> }\n"
     ++ codes ".end\n"
 
--- its one group
-abbrev groups : List Group
-groups = record { own = 2 ∷ []; known = 0 ∷ 1 ∷ 2 ∷ [] } ∷ []
-
--- the parts of these groups of what the text stands for
+-- its one part, where nothing is hidden
 abbrev parts_in : Result Meaning Fault → Option (List Part)
-parts_in (Ok m) = Some (parts_of m.lists groups)
+parts_in (Ok m) = Some (record no_part { net = settled [] m.lists; own = 2 ∷ []; known = 0 ∷ 1 ∷ 2 ∷ [] } ∷ [])
 parts_in (Err f) = None
 
 -- what is printed for the C-element

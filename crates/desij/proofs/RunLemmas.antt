@@ -5,7 +5,7 @@ use Rattle.std.specs.Io.KnownBytes.{IsAtEnd, prepend_known}
 use Rattle.std.proofs.lemmas.Bool.{false≢true}
 use Rattle.std.proofs.lemmas.List.{length-map}
 use Rattle.stg_net.specs.declared.limits.TheConstants.Limits.{SPEC}
-use Rattle.stg_decomp.specs.declared.part.Part.{Part}
+use Rattle.stg_derive.specs.declared.part.Part.{Part}
 use Rattle.stg_decomp.specs.Parts.{nets_of}
 use Rattle.desij.specs.Answering.{IsAcceptable, IsRefusable}
 use Rattle.desij.specs.Files.{HasParts, with_nets}

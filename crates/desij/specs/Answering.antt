@@ -12,11 +12,13 @@ use Rattle.stg_laws.specs.Conflict.{IsLeastClash}
 use Rattle.astg_read.specs.declared.rule.Rule.{Rule}
 use Rattle.astg_read.specs.Standing.{StandsFor, IsUnread}
 use Rattle.astg_write.specs.ReadsBack.{AreReadBack}
-use Rattle.stg_decomp.specs.declared.part.Part.{Part}
+use Rattle.stg_derive.specs.declared.part.Part.{Part}
 use Rattle.stg_decomp.specs.Parts.{AreParts, nets_of}
 use Rattle.desij.specs.Printing.{refusal}
 
--- The text stands for a specification without structural auto-conflicts, of which these are the parts. Their nets are components of it: each is faithful to it, and together they are a correct decomposition of it, where it is deterministic. Each is read back from its text.
+-- The text stands for a specification without structural auto-conflicts, of which these are the
+-- parts. Their nets are components of it: each is faithful to it, and together they are a correct
+-- decomposition of it, where it is deterministic. Each is read back from its text.
 pub record HasAnswer (text : List ℕ) (parts : List Part) : Type 0 where
   pub spec : SpecLists
   pub stands : StandsFor SPEC text spec
@@ -41,7 +43,8 @@ pub record IsRefusedByRule (text line : List ℕ) : Type 0 where
   pub unread : IsUnread SPEC text rule number
   pub told : line ≡ refusal rule number
 
--- the text stands for a specification with a structural auto-conflict, and this line tells the least one
+-- the text stands for a specification with a structural auto-conflict, and this line tells the
+-- least one
 pub record IsRefusedByClash (text line : List ℕ) : Type 0 where
   pub spec : SpecLists
   pub stands : StandsFor SPEC text spec

@@ -1,4 +1,5 @@
--- The outside as contracts see it: contents where a form tells them, and counts of the calls that failed.
+-- The outside as contracts see it: contents where a form tells them, and counts of the calls that
+-- failed.
 use Rattle.std.specs.Prelude.{◌≡◌, ℕ, ◌+◌, ◌-◌, ◌^◌, ◌≤◌, min, List, Option, None, IsSome, Result, OnErr, IsErrOf}
 use Rattle.std.specs.Option.{option_map, option_and_then}
 use Rattle.std.specs.Ordering.{nat_cmp}
@@ -11,7 +12,8 @@ use Rattle.desij.specs.declared.outside.PutError.TheVariants as put_error
 abbrev pub Files : Type 0
 Files = FinMap (slice_cmp nat_cmp) (List ℕ)
 
--- a source: its texts and what is left of the one selected last, where told, and how many calls selected and failed
+-- a source: its texts and what is left of the one selected last, where told, and how many calls
+-- selected and failed
 pub record SeenSource : Type 0 where
   pub texts : Option Files
   pub left : Option (List ℕ)

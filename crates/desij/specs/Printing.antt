@@ -2,7 +2,7 @@
 use Rattle.std.specs.Prelude.{◌≡◌, ℕ, ◌+◌, ◌-◌, List, [], ◌∷◌, ◌++◌, length, take, Option, codes, decimal}
 use Rattle.std.specs.Io.KnownBytes.{append_known}
 use Rattle.stg_net.specs.Net.{NetLists}
-use Rattle.stg_decomp.specs.declared.part.Part.{Part}
+use Rattle.stg_derive.specs.declared.part.Part.{Part}
 use Rattle.astg_read.specs.declared.rule.Rule.{Rule}
 use Rattle.astg_read.specs.Refusals.{rule_text}
 
@@ -28,7 +28,8 @@ part_line number p =
     count_text (codes "part ") number
     ++ signal_counts p
     ++ net_sizes p.net
-    ++ codes " restored 0\n"
+    ++ count_text (codes " restored ") (length p.restored)
+    ++ 10 ∷ []
 
 -- the lines of the parts, of which the first has that number
 abbrev pub part_lines : ℕ → List Part → List ℕ

@@ -8,7 +8,8 @@ use Rattle.desij.specs.Outside.{SeenSource, named}
 abbrev pub most_read : ℕ
 most_read = SPEC.bytes + 1
 
--- This is the text of that name, where texts are told: the whole of it, or its first bytes, so many as may be read, where it has more. The rest is left.
+-- This is the text of that name, where texts are told: the whole of it, or its first bytes, so many
+-- as may be read, where it has more. The rest is left.
 pub record ReadsUpTo (most : ℕ) (name text : List ℕ) (old new : SeenSource) : Type 0 where
   pub told : IsSome old.texts → named old.texts name ≡ prepend_known text new.left
   pub some_left : IsSome old.texts → IsSome new.left

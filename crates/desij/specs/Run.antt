@@ -14,7 +14,7 @@ use Rattle.desij.specs.Outside.{SeenSource, SeenShelf, SeenSink, IsMissing, Rose
 use Rattle.desij.specs.Printing.{IsPrefixPrinted, printed}
 use Rattle.desij.specs.Reading.{ReadsUpTo, ReadsWhole, most_read}
 use Rattle.desij.specs.Words.{usage}
-use Rattle.stg_decomp.specs.declared.part.Part.{Part}
+use Rattle.stg_derive.specs.declared.part.Part.{Part}
 
 -- all that is seen of the outside
 pub record Seen : Type 0 where
@@ -55,7 +55,8 @@ pub record PutsFirst (k : ℕ) (parts : List Part) (old new : SeenShelf) : Type 
 abbrev pub PutsAll : List Part → SeenShelf → SeenShelf → Type 0
 PutsAll parts old new = HasParts parts (length parts) old.files new.files
 
--- a put failed: the files before it are set, nothing is told of its own, and no other file has changed
+-- a put failed: the files before it are set, nothing is told of its own, and no other file has
+-- changed
 pub record PutsUpTo (k : ℕ) (parts : List Part) (old new : SeenShelf) : Type 0 where
   pub there : k < length parts
   pub put : FailsAt parts k old.files new.files
@@ -82,7 +83,10 @@ pub record WritesParts (name : List ℕ) (old new : Seen) : Type 0 where
   pub shelf : PutsAll parts old.shelf new.shelf
   pub sink : Prints (printed parts) old.sink new.sink
 
--- What WritesParts means, told without parts: the text stands for a specification; the component texts of some nets were put, and no other file has changed; these nets share out what the specification drives, each has exactly its traces on the net's signals, and together they are a correct decomposition of it, where it is deterministic. Each net is read back from its file.
+-- What WritesParts means, told without parts: the text stands for a specification; the component
+-- texts of some nets were put, and no other file has changed; these nets share out what the
+-- specification drives, each has exactly its traces on the net's signals, and together they are a
+-- correct decomposition of it, where it is deterministic. Each net is read back from its file.
 pub record WritesComponents (name : List ℕ) (old new : Seen) : Type 0 where
   pub text : List ℕ
   pub read : ReadsWhole name text old.source new.source
@@ -127,7 +131,8 @@ pub record CannotTellUsage (old new : Seen) : Type 0 where
   pub shelf : new.shelf ≡ old.shelf
   pub sink : BreaksOff usage old.sink new.sink
 
--- what was to be printed broke off: the usage, where the words aren't of the form, or else the refusal or the lines
+-- what was to be printed broke off: the usage, where the words aren't of the form, or else the
+-- refusal or the lines
 abbrev pub CannotPrint : Option (List ℕ) → Seen → Seen → Type 0
 CannotPrint None old new = CannotTellUsage old new
 CannotPrint (Some name) old new = CannotRefuse name old new ⊎ CannotTell name old new

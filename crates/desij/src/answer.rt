@@ -4,7 +4,7 @@ ghost use Rattle.std.specs.Prelude.{◌≡◌, ◌≤◌, All, IfOk, IfErr, leng
 ghost use Rattle.stg_net.specs.Initial.{graph_of};
 ghost use Rattle.stg_net.specs.Net.{IsWithin};
 ghost use Rattle.stg_laws.specs.Conflict.{IsLeastClash};
-ghost use Rattle.stg_decomp.specs.declared.part.Part.{Part};
+ghost use Rattle.stg_derive.specs.declared.part.Part.{Part};
 ghost use Rattle.astg_write.specs.Writable.{IsWritable};
 ghost use Rattle.astg_read.specs.Standing.{StandsFor, IsUnread};
 ghost use Rattle.desij.specs.Answering.{HasAnswer};

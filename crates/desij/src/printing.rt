@@ -12,7 +12,8 @@ use astg_read::Rule;
 use itoa::Buffer;
 use std::alloc::{AllocError, Global};
 use stg_conflict::Clash;
-use stg_decomp::{Answer, Part};
+use stg_decomp::Answer;
+use stg_derive::Part;
 use stg_net::{Net, NoMemory, Seq, Spec, Text, place_text, trans_text};
 
 /// A line for each part, and their number.
@@ -35,7 +36,8 @@ fn push_line(text: &mut Text, number: usize, part: &Part) -> Result<(), NoMemory
     push_count(text, b"part ", number)?;
     push_signals(text, part)?;
     push_sizes(text, &part.net)?;
-    text.extend_from_slice(b" restored 0\n")?;
+    push_count(text, b" restored ", part.restored.len())?;
+    text.push(b'\n')?;
     Ok(())
 }
 

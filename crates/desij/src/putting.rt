@@ -4,7 +4,7 @@ ghost use Rattle.std.specs.Prelude.{◌≡◌, ℕ, ◌<◌, ◌≤◌, All, IfO
 ghost use Rattle.std.specs.String.{string_bytes};
 ghost use Rattle.astg_write.specs.Writable.{IsWritable};
 ghost use Rattle.stg_decomp.specs.Parts.{nets_of};
-ghost use Rattle.stg_decomp.specs.declared.part.Part.{Part};
+ghost use Rattle.stg_derive.specs.declared.part.Part.{Part};
 ghost use Rattle.desij.specs.Files.{net_bytes, part_name};
 ghost use Rattle.desij.specs.Outside.{HasPutCause, with_file, without_file};
 ghost use Rattle.desij.specs.Run.{PutsAll, PutsFirst, PutsUpTo};

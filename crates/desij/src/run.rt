@@ -2,7 +2,7 @@
 
 ghost use Rattle.std.specs.Prelude.{◌≡◌, ◌≢◌, ◌⊎◌, ◌≤◌, All, None, Some, IsSomeAnd, length};
 ghost use Rattle.astg_write.specs.Writable.{IsWritable};
-ghost use Rattle.stg_decomp.specs.declared.part.Part.{Part};
+ghost use Rattle.stg_derive.specs.declared.part.Part.{Part};
 ghost use Rattle.desij.specs.inner.Ends.{Ends, EndsRefusal, Finishes};
 ghost use Rattle.desij.specs.Run.{seen, files_named, NoneRose, TellsAccepted, TellsRefused, TellsUsage, RefusesText, WritesComponents, WritesParts, CannotPrint, CannotPut, CannotRead, LacksMemory};
 ghost use Rattle.desij.specs.Outside.{IsMissing};

@@ -1,5 +1,7 @@
 //! Words, texts and faults over the forms in memory, and a test of each real form.
 
+mod derived;
+mod restored;
 mod rows;
 mod texts;
 
@@ -49,6 +51,16 @@ fn accepts_what_the_profile_leaves_free(rt: HostRuntime) -> Result<(), Fail> {
 #[test]
 fn makes_a_part_for_each_group(rt: HostRuntime) -> Result<(), Fail> {
     assert_rows(&rt, rt.alloc(), texts::GROUPS)
+}
+
+#[test]
+fn deletes_what_is_redundant(rt: HostRuntime) -> Result<(), Fail> {
+    assert_rows(&rt, rt.alloc(), derived::DERIVED)
+}
+
+#[test]
+fn gives_a_signal_back_where_its_dummy_is_refused(rt: HostRuntime) -> Result<(), Fail> {
+    assert_rows(&rt, rt.alloc(), restored::RESTORED)
 }
 
 // A text of that many bytes: these, and then `#`.

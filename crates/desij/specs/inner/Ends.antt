@@ -3,7 +3,7 @@ use Rattle.std.specs.Prelude.{◌≡◌, ℕ, List, Option, IsSomeAnd, ◌≤◌
 use Rattle.desij.specs.Outside.{SeenShelf, SeenSink, SeenSource, IsMissing, Rose}
 use Rattle.desij.specs.Printing.{printed}
 use Rattle.desij.specs.Run.{Seen, Prints, BreaksOff, PutsAll, PutsFirst, PutsUpTo, TellsUsage, RefusesText, WritesParts, CannotRead, CannotPut, CannotPrint, LacksMemory}
-use Rattle.stg_decomp.specs.declared.part.Part.{Part}
+use Rattle.stg_derive.specs.declared.part.Part.{Part}
 use Rattle.desij.specs.declared.status.Status.{Status}
 use Rattle.desij.specs.declared.status.Status.TheVariants.{Done, BadWords, Refused, ReadFault, WriteFault, PrintFault, NoMemory, ServeFault}
 use Rattle.desij.specs.declared.reading.TextError.{TextError}
@@ -35,7 +35,8 @@ Finishes parts PrintFault old new sink sink' =
 Finishes parts NoMemory old new sink sink' = ((k : ℕ) × PutsFirst k parts old new) × (sink' ≡ sink)
 Finishes parts s old new sink sink' = ⊥
 
--- the count of faults never falls; a failure comes only where it rose, and a missing text only where the texts are told and none has that name
+-- the count of faults never falls; a failure comes only where it rose, and a missing text only
+-- where the texts are told and none has that name
 pub record HasTextCause {T : Type 0} (name : List ℕ) (result : Result T TextError)
     (old new : SeenSource) : Type 0 where
   pub later : old.faults ≤ new.faults

@@ -24,8 +24,8 @@ pub struct Row {
     pub status: Status,
     /// How many files come.
     pub files: usize,
-    /// The bytes of the first file, where they are looked at.
-    pub first: Option<&'static [u8]>,
+    /// The bytes of the first files, as many as are looked at.
+    pub parts: &'static [&'static [u8]],
     pub printed: &'static [u8],
 }
 
@@ -73,14 +73,13 @@ pub fn run_over(
     })
 }
 
-// The first file that a run put is `part1.g` with these bytes.
-fn assert_first(rt: &impl Abort, row: usize, ran: &Ran, bytes: &[u8]) {
-    match ran.shelf.files().first() {
-        Some(file) => {
-            assert_eq!(rt; file.0.as_slice(), b"part1.g".as_slice(), "row {row}");
-            assert_eq!(rt; file.1.as_slice(), bytes, "row {row}");
-        }
-        None => assert!(rt; false, "row {row}: no file was put"),
+// The first files that a run put have these bytes, and the first of them is `part1.g`.
+fn assert_parts(rt: &impl Abort, row: usize, ran: &Ran, parts: &[&[u8]]) {
+    for (file, bytes) in ran.shelf.files().iter().zip(parts) {
+        assert_eq!(rt; file.1.as_slice(), *bytes, "row {row}");
+    }
+    if let Some(file) = ran.shelf.files().first() {
+        assert_eq!(rt; file.0.as_slice(), b"part1.g".as_slice(), "row {row}");
     }
 }
 
@@ -89,9 +88,8 @@ fn assert_row(rt: &impl Abort, row: usize, ran: &Ran, wanted: &Row) {
     assert_eq!(rt; ran.status, wanted.status, "row {row}");
     assert_eq!(rt; ran.shelf.files().len(), wanted.files, "row {row}");
     assert_eq!(rt; ran.sink.bytes(), wanted.printed, "row {row}");
-    if let Some(bytes) = wanted.first {
-        assert_first(rt, row, ran, bytes);
-    }
+    assert!(rt; wanted.parts.len() <= wanted.files, "row {row}");
+    assert_parts(rt, row, ran, wanted.parts);
 }
 
 /// Each row's run ends as it says.
