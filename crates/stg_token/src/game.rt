@@ -59,7 +59,8 @@ fn take(m: &mut Nums, t: u32, arc: NetArc)
 
 fn give(m: &mut Nums, t: u32, arc: NetArc)
     requires in_range { arc.place < length m.old }
-    requires bounded { slice_index m.old arc.place + weight_of (arc ∷ []) true t arc.place < 2 ^ 32 }
+    requires bounded { slice_index m.old arc.place
+        + weight_of (arc ∷ []) true t arc.place < 2 ^ 32 }
     ensures { m.new ≡ with_given t arc m.old }
 {
     if connects_trans(arc, t, true) {

@@ -9,7 +9,8 @@ use Rattle.stg_redundant.specs.inner.Tests.{sole_of}
 
 -- the link of a place whose one giver and one taker these are
 abbrev pub link_of : Graph → ℕ → Option ℕ → Option ℕ → Option Link
-link_of g p (Some a) (Some b) = Some (record { place = p; giver = a; taker = b; tokens = tokens_at g p })
+link_of g p (Some a) (Some b) =
+    Some (record { place = p; giver = a; taker = b; tokens = tokens_at g p })
 link_of g p (Some a) None = None
 link_of g p None o = None
 
