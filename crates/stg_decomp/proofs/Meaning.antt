@@ -11,7 +11,7 @@ use Rattle.stg_laws.specs.Faithful.{AreComponents}
 use Rattle.stg_laws.specs.Groups.{least_own, is_known_to, known_to, names_at}
 use Rattle.stg_edit.proofs.Lists.{map-after}
 use Rattle.stg_laws.specs.PlainGroups.{Group, ArePlainGroups}
-use Rattle.stg_laws.proofs.ClosedGroups.{groups_closed}
+use Rattle.stg_laws.proofs.FeasibleGroups.{plain_feasible, feasible_closed}
 use Rattle.stg_laws.proofs.SignalConflicts.{joined_driven, driven_there}
 use Rattle.stg_partition.proofs.Numbers.{numbers_pass}
 use Rattle.stg_laws.proofs.KnownSignals.{passing_contained}
@@ -32,7 +32,7 @@ known_in_range n groups plain i below =
 
 module _ (n : NetLists) (net : IsNet n) (groups : List Group) (plain : ArePlainGroups n groups) where
   pub group_closed : (i : ℕ) → i < length groups → IsClosed (graph_of n) (names_at n (group_in groups i).own) (names_at n (group_in groups i).known)
-  group_closed i below = groups_closed n groups net plain i no_group below
+  group_closed i below = feasible_closed n groups net (plain_feasible n groups plain) i no_group below
 
   -- a group knows its own signals
   own_is_known : (i : ℕ) → i < length groups → (k : ℕ) → is_one_of (group_in groups i).own k ≡ true → is_one_of (group_in groups i).known k ≡ true

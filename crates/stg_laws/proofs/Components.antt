@@ -1,5 +1,5 @@
--- Nets as components: full names tell their transitions apart, and a net that knows every signal of the specification is faithful to it.
-use Rattle.std.proofs.Common.{◌≡◌, ◌↔◌, ℕ, zero-add, ◌<◌, List, [], map, length, get_or, Bool, true, false, cond, Some, IsTrue, refl, sym, ◌∙◌, ap, subst, arith}
+-- Nets as components: full names tell their transitions apart, and which signals a component and a net in order declare.
+use Rattle.std.proofs.Common.{◌≡◌, ◌↔◌, ℕ, zero-add, ◌<◌, List, [], map, length, get_or, Bool, true, false, cond, Some, IsTrue, refl, sym, ◌∙◌, ap, arith}
 use Rattle.std.specs.List.{range_with_len, enumerate_from}
 use Rattle.std.proofs.lemmas.Bool.{false≢true}
 use Rattle.std.proofs.lemmas.List.{length-map, get_or-map as get_or-map_in}
@@ -11,25 +11,20 @@ use Rattle.stg_net.specs.declared.trans.TransName.{TransName}
 use Rattle.stg_net.specs.Net.{NetLists, IsNet, signal_at, trans_at, is_kind}
 use Rattle.stg_net.specs.Graph.{FullName, is_among}
 use Rattle.stg_net.specs.Initial.{place_of, full_name, graph_of}
-use Rattle.stg_net.specs.Component.{is_one_of, shared_kind, component_kind, component_signal, component}
+use Rattle.stg_net.specs.Component.{shared_kind, component_kind, component_signal, component}
 use Rattle.stg_net.specs.Ordered.{signal_order, new_number, ordered}
 use Rattle.stg_net.proofs.Orders.{signal_order-IsOrder, order_below, new_number-below}
 use Rattle.stg_net.proofs.Pairs.{same_place}
 use Rattle.stg_net.proofs.Signals.{one_signal}
 use Rattle.stg_net.proofs.Weights.{full_name_at-graph_of, live_below}
-use Rattle.stg_net.proofs.ComponentSignals.{length-component_signals, names-component_signals, component-IsNet}
-use Rattle.stg_laws.specs.Deterministic.{HasNoDummy}
-use Rattle.stg_laws.specs.Faithful.{IsFaithful}
+use Rattle.stg_net.proofs.ComponentSignals.{length-component_signals, names-component_signals}
 use Rattle.stg_laws.specs.Laws.{DriveTheSame}
 use Rattle.stg_laws.specs.Stgs.{HasDistinctNames, IsStg, stg_of, is_driven, names_where}
 use Rattle.stg_laws.proofs.Cuts.{AllKnown}
 use Rattle.stg_laws.proofs.Declaring.{Declares, declared, found}
-use Rattle.stg_laws.proofs.Deriving.{derivation_is_faithful}
-use Rattle.stg_laws.proofs.Keeping.{Keeps}
 use Rattle.stg_laws.proofs.Nets.{no_signal, signal_name-at}
-use Rattle.stg_laws.proofs.Ordering.{order_renumbers, same_signal}
-use Rattle.stg_laws.proofs.Renumbering.{renumbered_keeps, renumbered_no_dummy}
-use Rattle.stg_laws.proofs.Wiring.{is_any, net_knows, net_known, IsGroupComponent}
+use Rattle.stg_laws.proofs.Ordering.{same_signal}
+use Rattle.stg_laws.proofs.Wiring.{net_knows}
 
 module _ (n : NetLists) (net : IsNet n) where
   pub net_distinct : HasDistinctNames (graph_of n)
@@ -50,9 +45,6 @@ module _ (n : NetLists) (net : IsNet n) where
       let x = trans_at n.trans t in
       rw (full_name_at-graph_of n t below) (net_knows n (full_name n x).signal x.signal (record { there = net.trans_signals t (trans_at [] t) below; passes = refl; named = refl }))
 
-  pub net_no_dummy : HasNoDummy (graph_of n)
-  net_no_dummy t dummy = false≢true (sym dummy.hidden ∙ net_all_known t dummy.live)
-
   pub net_is_stg : IsStg (stg_of n)
   net_is_stg = record {
     distinct = net_distinct;
@@ -72,30 +64,6 @@ module _ (own shared : List ℕ) (n : NetLists) where
     known = map (λ s. component_signal-name s i) (range_with_len 0 (length-component_signals own shared 0 n.signals i));
     first_places = length n.tokens;
   }
-
-module _ (n : NetLists) (net : IsNet n) (own shared : List ℕ) where
-  seen_net : IsNet (component own shared n)
-  seen_net = component-IsNet own shared n net
-
-  keeps_seen : Keeps (graph_of n) (graph_of (ordered (component own shared n)))
-  keeps_seen =
-      let h = graph_of (ordered (component own shared n)) in
-      subst (λ g. Keeps g h) (component-graph own shared n) (renumbered_keeps (graph_of (component own shared n)) h (order_renumbers (component own shared n) seen_net))
-
-  seen_no_dummy : HasNoDummy (graph_of (ordered (component own shared n)))
-  seen_no_dummy =
-      renumbered_no_dummy (graph_of (component own shared n)) (graph_of (ordered (component own shared n))) (order_renumbers (component own shared n) seen_net)
-      (net_no_dummy (component own shared n) seen_net)
-
-  -- a component that knows every signal is faithful
-  pub seen_is_faithful : IsFaithful (graph_of n) (stg_of (ordered (component own shared n)))
-  seen_is_faithful = derivation_is_faithful (graph_of n) (graph_of n).known (stg_of (ordered (component own shared n))) (record {
-    distinct = net_distinct n net;
-    known = net_all_known n net;
-    closed = λ t u p own_t takes_t live arc. net_all_known n net u live;
-    keeps = keeps_seen;
-    no_dummy = seen_no_dummy;
-  })
 
 -- a signal in order is declared at its old number, and the other way round
 pub in_old_order : (n : NetLists) (test : Kind → Bool) (s : List ℕ) (r : ℕ) → Declares (ordered n).signals test s r → (k : ℕ) × Declares n.signals test s k
@@ -145,7 +113,7 @@ module _ (own shared : List ℕ) (n : NetLists) where
     named = component_signal-name own shared n k ∙ d.named;
   }
 
--- what passes as driven is own and driven, and what passes as internal is own and not shared
+-- what passes as driven is own and driven, and the other way round
 pub driven_own : (a b : Bool) (kind : Kind) → is_driven (cond a (cond b (shared_kind kind) kind) Input) ≡ true → (a ≡ true) × (is_driven kind ≡ true)
 driven_own false b kind e = absurd (false≢true e)
 driven_own true false kind e = (refl, e)
@@ -159,41 +127,3 @@ own_driven true false kind e d = d
 own_driven true true Input e d = absurd (false≢true d)
 own_driven true true Output e d = refl
 own_driven true true Internal e d = refl
-
-pub internal_own : (a b : Bool) (kind : Kind) → is_kind Internal (cond a (cond b (shared_kind kind) kind) Input) ≡ true → (a ≡ true) × (b ≡ false)
-internal_own false b kind e = absurd (false≢true e)
-internal_own true false kind e = (refl, refl)
-internal_own true true Input e = absurd (false≢true e)
-internal_own true true Output e = absurd (false≢true e)
-internal_own true true Internal e = absurd (false≢true e)
-
-module _ (n : NetLists) (net : IsNet n) (own known shared : List ℕ) (all : (k : ℕ) → k < length n.signals → is_one_of known k ≡ true) where
-  declared_seen : (test : Kind → Bool) (s : List ℕ) → IsTrue (is_among (names_where test (ordered (component own shared n)).signals) s)
-      → (k : ℕ) × Declares n.signals (λ kind. test (component_kind own shared k kind)) s k
-  declared_seen test s found_it =
-      let a = declared test (ordered (component own shared n)).signals s found_it in
-      let b = in_old_order (component own shared n) test s a.0 a.1 in
-      (b.0, declares-component_kind own shared n test s b.0 b.1)
-
-  -- a component that knows every signal is one of its group
-  pub is_group_component : IsGroupComponent n own known shared (stg_of (ordered (component own shared n)))
-  is_group_component = record {
-    driven = λ s drive.
-        let d = declared_seen is_driven s drive in
-        let o = driven_own (is_one_of own d.0) (is_one_of shared d.0) (signal_at n.signals d.0).kind d.1.passes in
-        (d.0, record { there = d.1.there; passes = o.1; named = d.1.named }, o.0);
-    drives_own = λ s k d mine.
-        let here = own_driven (is_one_of own k) (is_one_of shared k) (signal_at n.signals k).kind mine d.passes in
-        let m = component own shared n in
-        let x = kind_given own shared n is_driven s k (record { there = d.there; passes = here; named = d.named }) in
-        found is_driven (ordered m).signals s (new_number (signal_order m.signals) k) (in_new_order m is_driven s k (component-IsNet own shared n net) x);
-    known_all = λ s knowing.
-        let a = net_known (ordered (component own shared n)) s knowing in
-        let b = in_old_order (component own shared n) is_any s a.0 a.1 in
-        let d = declares-component_kind own shared n is_any s b.0 b.1 in
-        (b.0, record { there = d.there; passes = refl; named = d.named }, all b.0 d.there);
-    not_shared = λ s internal.
-        let d = declared_seen (is_kind Internal) s internal in
-        let o = internal_own (is_one_of own d.0) (is_one_of shared d.0) (signal_at n.signals d.0).kind d.1.passes in
-        (d.0, record { there = d.1.there; passes = refl; named = d.1.named }, o.0, o.1);
-  }

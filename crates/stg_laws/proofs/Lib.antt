@@ -4,7 +4,7 @@ pub mod Cuts
 pub mod Inputs
 pub mod KnownSignals
 pub mod SignalConflicts
-pub mod ClosedGroups
+pub mod FeasibleGroups
 pub mod OneGrouping
 pub mod Keeping
 pub mod Renumbering

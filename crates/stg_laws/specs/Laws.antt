@@ -1,5 +1,5 @@
 -- The laws, each for all graphs or nets.
-use Rattle.std.specs.Prelude.{◌≡◌, ◌↔◌, ℕ, ◌<◌, List, All, length, IsTrue}
+use Rattle.std.specs.Prelude.{◌≡◌, ◌↔◌, ℕ, ◌<◌, ◌≤◌, List, All, length, IsTrue}
 use Rattle.stg_net.specs.Graph.{Graph, IsTrans, IsDummy, full_name_at, has_signal_of, takes}
 use Rattle.stg_net.specs.Net.{NetLists, IsNet}
 use Rattle.stg_net.specs.Initial.{graph_of}
@@ -8,7 +8,7 @@ use Rattle.stg_net.specs.Ordered.{ordered}
 use Rattle.stg_net.specs.Contraction.{contracted, without_place, without_trans}
 use Rattle.stg_laws.specs.Closed.{IsClosed}
 use Rattle.stg_laws.specs.Groups.{known_to, names_at}
-use Rattle.stg_laws.specs.PlainGroups.{Group, ArePlainGroups}
+use Rattle.stg_laws.specs.PlainGroups.{Group, ArePlainGroups, AreFeasible, AreClosed}
 use Rattle.stg_laws.specs.Cuts.{cut, HaveSameNameLists}
 use Rattle.stg_laws.specs.Deterministic.{IsClean, HasNoDummy, IsDeterministic}
 use Rattle.stg_laws.specs.Conflict.{HasNoAutoConflict}
@@ -62,6 +62,22 @@ abbrev pub HasOneGrouping : Type 0
 HasOneGrouping =
     (n : NetLists) (groups others : List Group) → ArePlainGroups n groups → ArePlainGroups n others
     → groups ≡ others
+
+-- the plain groups are feasible
+abbrev pub PlainGroupsAreFeasible : Type 0
+PlainGroupsAreFeasible =
+    (n : NetLists) (groups : List Group) → ArePlainGroups n groups → AreFeasible n groups
+
+-- feasible groups are closed
+abbrev pub FeasibleGroupsAreClosed : Type 0
+FeasibleGroupsAreClosed =
+    (n : NetLists) (groups : List Group) → IsNet n → AreFeasible n groups → AreClosed n groups
+
+-- there are at most as many of them as signals
+abbrev pub FeasibleGroupsAreFew : Type 0
+FeasibleGroupsAreFew =
+    (n : NetLists) (groups : List Group) → AreFeasible n groups
+    → length groups ≤ length n.signals
 
 -- a graph without dummies, toggles and structural auto-conflicts, in each of whose runs the edges
 -- of each signal alternate, is deterministic

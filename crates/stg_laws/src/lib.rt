@@ -2,6 +2,7 @@
 #![tactic(auto)]
 
 ghost use Rattle.stg_laws.specs.Laws.{ConsistencyDetermines, CutTellsInputs, KnownCloses, HasOneGrouping, FaithfulPartsAreCorrect, OrderRenumbers, OrderDrivesTheSame};
+ghost use Rattle.stg_laws.specs.Laws.{PlainGroupsAreFeasible, FeasibleGroupsAreClosed, FeasibleGroupsAreFew};
 ghost use Rattle.stg_laws.specs.Laws.{ContractionFollows, ContractionAddsNoRun, ContractionKeepsNames, ContractionKeepsClean};
 ghost use Rattle.stg_laws.specs.Laws.{StructuralDeletionKeepsRuns, RulesAreStructural, PlaceDeletionKeepsRuns, PlaceDeletionKeepsClean};
 ghost use Rattle.stg_laws.specs.Laws.{DummyDeletionKeepsNames, TransDeletionAddsNoRun, TransDeletionKeepsClean};
@@ -31,6 +32,14 @@ pub fn law_known()
 /// A net has one list of plain groups.
 pub fn law_one_grouping()
     ensures { HasOneGrouping }
+{}
+
+/// The plain groups are feasible. Feasible groups are closed, so that `law_inputs` holds of each,
+/// and there are at most as many as signals.
+pub fn law_feasible()
+    ensures plain { PlainGroupsAreFeasible }
+    ensures closed { FeasibleGroupsAreClosed }
+    ensures few { FeasibleGroupsAreFew }
 {}
 
 /// A consistent graph without dummies, toggles and structural auto-conflicts is deterministic.

@@ -4,7 +4,7 @@ use Rattle.stg_net.specs.Net.{NetLists, IsNet}
 use Rattle.stg_laws.specs.PlainGroups.{Group, ArePlainGroups, AreClosed}
 use Rattle.stg_partition.specs.inner.Joining.{groups_below}
 use Rattle.stg_partition.proofs.Grouping.{plain_groups_of}
-use Rattle.stg_laws.proofs.ClosedGroups.{groups_closed}
+use Rattle.stg_laws.proofs.FeasibleGroups.{plain_feasible, feasible_closed}
 use Rattle.stg_partition.proofs.plain.plain_groups.Goals as goal
 
 pub returns-clause-groups : goal.returns-clause-groups
@@ -26,4 +26,4 @@ returns-clause-groups c =
 pub returns-clause-closed : goal.returns-clause-closed
 returns-clause-closed c =
     let net = c.net-net.ensures.spec.is_net in
-    IfOk-weaker c.list_groups.result (λ groups. ArePlainGroups c.args.spec.now.net groups) (λ groups. AreClosed c.args.spec.now.net groups) (λ groups are. groups_closed c.args.spec.now.net groups net are) (returns-clause-groups c)
+    IfOk-weaker c.list_groups.result (λ groups. ArePlainGroups c.args.spec.now.net groups) (λ groups. AreClosed c.args.spec.now.net groups) (λ groups are. feasible_closed c.args.spec.now.net groups net (plain_feasible c.args.spec.now.net groups are)) (returns-clause-groups c)
