@@ -4,3 +4,15 @@ pub mod Leading
 pub mod FlagLemmas
 pub mod Numbers
 pub mod Grouping
+pub mod WordTexts
+pub mod Runs
+pub mod Knowing
+pub mod ReadRows
+pub mod Takers
+pub mod SplitOrders
+pub mod GroupNumbers
+pub mod Splitting
+pub mod Feasible
+pub mod GoodRows
+pub mod NamedGroups
+pub mod Answered

@@ -15,7 +15,7 @@ pub(crate) struct LeadersAndTakers {
     pub takers: Vec<Option<u32>>,
 }
 
-fn no_takers(alloc: Global, places: usize) -> Result<Vec<Option<u32>>, NoMemory>
+pub(crate) fn no_takers(alloc: Global, places: usize) -> Result<Vec<Option<u32>>, NoMemory>
     ensures long { IfOk result (λ takers. length takers.items ≡ places) }
     ensures none { IfOk result (λ takers. All (λ taker. taker ≡ None) takers.items) }
 {
@@ -26,7 +26,7 @@ fn no_takers(alloc: Global, places: usize) -> Result<Vec<Option<u32>>, NoMemory>
     Ok(takers)
 }
 
-fn is_driven(kind: Kind) -> bool
+pub(crate) fn is_driven(kind: Kind) -> bool
     ensures { result ≡ is_driven kind }
 {
     kind != Kind::Input
@@ -49,7 +49,7 @@ pub(crate) fn signal_of(net: &Net, arc: NetArc) -> u32
     net.trans()[arc.trans as usize].signal
 }
 
-fn own_taker(net: &Net, arc: NetArc) -> Option<u32>
+pub(crate) fn own_taker(net: &Net, arc: NetArc) -> Option<u32>
     requires { arc.trans < length net.now.trans }
     ensures value { result ≡ own_taker net.now arc }
     ensures within { IfSome result (λ s. s < length net.now.signals) }
