@@ -1,5 +1,5 @@
 -- Each text names one partition of a net, or is refused by one error.
-use Rattle.std.proofs.Common.{◌≡◌, ◌<◌, ◌⊎◌, ℕ, zero, suc, not, Bool, true, false, List, length, map, Option, Some, None, Result, Ok, Err, refl, sym, ap, ◌∙◌, subst, arith, inl, inr}
+use Rattle.std.proofs.Common.{◌≡◌, ◌<◌, ◌⊎◌, ℕ, zero, suc, not, if◌then◌else◌, Bool, true, false, List, length, map, Option, Some, None, Result, Ok, Err, refl, sym, ap, ◌∙◌, subst, arith, inl, inr}
 use Rattle.std.specs.List.{range_with_len}
 use Rattle.std.proofs.lemmas.Bool.{cases_Bool, cases_lt, cases_order, and_parts, false≢true}
 use Rattle.std.proofs.lemmas.List.{length-map}
@@ -12,7 +12,7 @@ use Rattle.stg_partition.specs.declared.error.GroupError.{GroupError}
 use Rattle.stg_partition.specs.declared.error.GroupError.TheVariants as errors
 use Rattle.stg_partition.specs.declared.splits.Split.{Split}
 use Rattle.stg_partition.specs.PartitionText.{Row, rows_of}
-use Rattle.stg_partition.specs.Partition.{row_group, row_groups, groups_in, stands_in, is_missing, IsLeastMissing, AreWhole, IsLeastSplit, ArePartition, IsRefusedBy, IsAnswer, HasOneAnswer}
+use Rattle.stg_partition.specs.Partition.{row_group, row_groups, groups_in, stands_in, is_missing, AreWhole, IsLeastSplit, ArePartition, IsRefusedBy, IsAnswer, HasOneAnswer}
 use Rattle.stg_partition.specs.inner.Naming.{AreNamedGroups, AreRefusedBy}
 use Rattle.stg_partition.specs.inner.Numbers.{group_number, AreNumbers}
 use Rattle.stg_partition.specs.inner.Splits.{least_takers, least_split, AreLeastTakers}
@@ -68,84 +68,106 @@ groups_refused n text groups (errors.SplitConflict x y place) named r = record {
 groups_refused n text groups errors.NoMemory named r = absurd r
 
 -- the first number below the bound that passes
-record First (test : ℕ → Bool) (n : ℕ) : Type 0 where
-  pub at : ℕ
-  pub below : at < n
-  pub passes : test at ≡ true
-  pub before : (r : ℕ) → r < at → test r ≡ false
+abbrev or_here : Option ℕ → Bool → ℕ → Option ℕ
+or_here (Some k) passes n = Some k
+or_here None passes n = if passes then Some n else None
 
-first_or_none : (test : ℕ → Bool) (n : ℕ) → First test n ⊎ ((r : ℕ) → r < n → test r ≡ false)
-first_or_none test zero = inr (λ r below. absurd (omega arith))
-first_or_none test (suc n) = elim (first_or_none test n) [
-  | inl f ↦ inl (record { at = f.at; below = omega (arith, f.below); passes = f.passes; before = f.before })
-  | inr none ↦ elim (cases_Bool (test n)) [
-    | inl e ↦ inl (record { at = n; below = omega arith; passes = e; before = none })
-    | inr e ↦ inr (λ r below. elim (cases_lt r n) [
-      | inl l ↦ none r l
-      | inr past ↦ let same : n ≡ r = omega arith in ap test (sym same) ∙ e
-    ])
-  ]
-]
+abbrev pub first_of : (ℕ → Bool) → ℕ → Option ℕ
+first_of test zero = None
+first_of test (suc n) = or_here (first_of test n) (test n) n
+
+-- it passes, and no lesser one does; or none does
+abbrev IsFirst : (ℕ → Bool) → ℕ → Option ℕ → Type 0
+IsFirst test n None = (r : ℕ) → r < n → test r ≡ false
+IsFirst test n (Some k) = (k < n) × (test k ≡ true) × ((r : ℕ) → r < k → test r ≡ false)
+
+first_is : (test : ℕ → Bool) (n : ℕ) → IsFirst test n (first_of test n)
+first_is test zero = λ r below. absurd (omega arith)
+first_is test (suc n) = go (first_of test n) (first_is test n)
+  where
+    go : (o : Option ℕ) → IsFirst test n o → IsFirst test (suc n) (or_here o (test n) n)
+    go (Some k) f = (omega (arith, f.0), f.1, f.2)
+    go None none = elim (cases_Bool (test n)) [
+      | inl e ↦ rw e (omega arith, e, none)
+      | inr e ↦ rw e (λ r below. elim (cases_lt r n) [
+        | inl l ↦ none r l
+        | inr past ↦ let same : n ≡ r = omega arith in ap test (sym same) ∙ e
+      ])
+    ]
 
 missing_there : (n : NetLists) (groups : List Group) (s : ℕ) → is_missing n groups s ≡ true → s < length n.signals
 missing_there n groups s missing = driven_there n s (and_parts (is_driven_at n.signals s) (not (stands_in groups s)) missing).0
 
-missing_or_whole : (n : NetLists) (groups : List Group) → ((s : ℕ) × IsLeastMissing n groups s) ⊎ AreWhole n groups
-missing_or_whole n groups = elim (first_or_none (is_missing n groups) (length n.signals)) [
-  | inl f ↦ inl (
-    f.at,
-    record {
-      missing = f.passes;
-      least = λ r missing. elim (cases_lt r f.at) [ inl low ↦ absurd (false≢true (sym (f.before r low) ∙ missing)) | inr up ↦ up ];
-    },
-  )
-  | inr none ↦ inr (λ s missing. false≢true (sym (none s (missing_there n groups s missing)) ∙ missing))
-]
-
-numbers_of : NetLists → List Group → List (Option ℕ)
+abbrev pub numbers_of : NetLists → List Group → List (Option ℕ)
 numbers_of n groups = map (group_number groups) (range_with_len 0 (length n.signals))
 
 are_numbers : (n : NetLists) (groups : List Group) → AreNumbers n groups (numbers_of n groups)
-unfolding numbers_of
 are_numbers n groups = record {
   long = length-map (range_with_len 0 (length n.signals)) (group_number groups) ∙ length-range_with_len 0 (length n.signals);
   each = λ s there. get_or-map-range_with_len (group_number groups) 0 (length n.signals) s s None there (omega arith);
 }
 
-no_takers : NetLists → List (Option ℕ)
-no_takers n = map (λ (p : ℕ). let none : Option ℕ = None in none) (range_with_len 0 (length n.tokens))
+abbrev nothing : ℕ → Option ℕ
+nothing p = None
 
-takers_of : NetLists → List (Option ℕ)
-takers_of n = least_takers n (no_takers n) n.arcs
+abbrev pub takers_of : NetLists → List (Option ℕ)
+takers_of n = least_takers n (map nothing (range_with_len 0 (length n.tokens))) n.arcs
 
 are_takers : (n : NetLists) → IsNet n → AreLeastTakers n (takers_of n)
-unfolding takers_of no_takers
 are_takers n net =
-    let nothing : ℕ → Option ℕ = λ p. None in
-    are_least_takers n (no_takers n) (takers_of n) net (length-map (range_with_len 0 (length n.tokens)) nothing ∙ length-range_with_len 0 (length n.tokens))
-    (λ p d inside. get_or-map-range_with_len nothing 0 (length n.tokens) p p d (omega (arith, inside, length-map (range_with_len 0 (length n.tokens)) nothing, length-range_with_len 0 (length n.tokens))) (omega arith)) refl
+    let long = length-map (range_with_len 0 (length n.tokens)) nothing ∙ length-range_with_len 0 (length n.tokens) in
+    are_least_takers n (map nothing (range_with_len 0 (length n.tokens))) (takers_of n) net long
+    (λ p d inside. get_or-map-range_with_len nothing 0 (length n.tokens) p p d (omega (arith, inside, long)) (omega arith)) refl
 
--- the groups are feasible, or an error tells why not
-feasible_or_refused : (n : NetLists) (groups : List Group) → IsNet n → AreNamedGroups n groups → AreFeasible n groups ⊎ ((e : GroupError) × AreRefusedBy n groups e)
-feasible_or_refused n groups net named = elim (missing_or_whole n groups) [
-  | inl m ↦ inr (errors.OutputMissing m.0, m.1)
-  | inr whole ↦ go whole (least_split n (numbers_of n groups) (takers_of n) n.arcs) refl
-]
-  where
-    go : AreWhole n groups → (o : Option Split) → o ≡ least_split n (numbers_of n groups) (takers_of n) n.arcs → AreFeasible n groups ⊎ ((e : GroupError) × AreRefusedBy n groups e)
-    go whole None o_is = inl (unsplit_feasible n groups named whole (none_split n groups (numbers_of n groups) (takers_of n) named whole (are_numbers n groups) (are_takers n net) o_is))
-    go whole (Some c) o_is = inr (errors.SplitConflict c.x c.y c.place, (whole, some_split n groups (numbers_of n groups) (takers_of n) named whole (are_numbers n groups) (are_takers n net) c o_is))
+-- the answer that a search of the text's groups finds
+abbrev by_split : List Group → Option Split → Result (List Group) GroupError
+by_split groups (Some c) = Err (errors.SplitConflict c.x c.y c.place)
+by_split groups None = Ok groups
 
--- a text has an answer
-pub answer_of : (n : NetLists) (text : List ℕ) → IsNet n → (r : Result (List Group) GroupError) × IsAnswer n text r
-answer_of n text net = go (groups_in n text) refl
+abbrev by_missing : NetLists → List Group → Option ℕ → Result (List Group) GroupError
+by_missing n groups (Some s) = Err (errors.OutputMissing s)
+by_missing n groups None = by_split groups (least_split n (numbers_of n groups) (takers_of n) n.arcs)
+
+abbrev by_groups : NetLists → Result (List Group) GroupError → Result (List Group) GroupError
+by_groups n (Err e) = Err e
+by_groups n (Ok groups) = by_missing n groups (first_of (is_missing n groups) (length n.signals))
+
+abbrev pub answer_of : NetLists → List ℕ → Result (List Group) GroupError
+answer_of n text = by_groups n (groups_in n text)
+
+split_is : (n : NetLists) (text : List ℕ) (groups : List Group) → IsNet n → groups_in n text ≡ Ok groups → AreNamedGroups n groups → AreWhole n groups → (o : Option Split) → o ≡ least_split n (numbers_of n groups) (takers_of n) n.arcs
+    → IsAnswer n text (by_split groups o)
+split_is n text groups net named are whole None o_is = record {
+  named = named;
+  feasible = unsplit_feasible n groups are whole (none_split n groups (numbers_of n groups) (takers_of n) are whole (are_numbers n groups) (are_takers n net) o_is);
+}
+split_is n text groups net named are whole (Some c) o_is = record {
+  groups = groups;
+  named = named;
+  whole = whole;
+  least = some_split n groups (numbers_of n groups) (takers_of n) are whole (are_numbers n groups) (are_takers n net) c o_is;
+}
+
+missing_is : (n : NetLists) (text : List ℕ) (groups : List Group) → IsNet n → groups_in n text ≡ Ok groups → (o : Option ℕ) → IsFirst (is_missing n groups) (length n.signals) o → IsAnswer n text (by_missing n groups o)
+missing_is n text groups net named (Some s) f = record {
+  groups = groups;
+  named = named;
+  least = record {
+    missing = f.1;
+    least = λ r missing. elim (cases_lt r s) [ inl low ↦ absurd (false≢true (sym (f.2 r low) ∙ missing)) | inr up ↦ up ];
+  };
+}
+missing_is n text groups net named None none =
+    split_is n text groups net named (named_groups n text groups net named) (λ s missing. false≢true (sym (none s (missing_there n groups s missing)) ∙ missing))
+    (least_split n (numbers_of n groups) (takers_of n) n.arcs) refl
+
+-- a text has this answer
+pub answer_is : (n : NetLists) (text : List ℕ) → IsNet n → IsAnswer n text (answer_of n text)
+answer_is n text net = go (groups_in n text) refl
   where
-    go : (g : Result (List Group) GroupError) → groups_in n text ≡ g → (r : Result (List Group) GroupError) × IsAnswer n text r
-    go (Err e) named = (Err e, line_refused n text e named)
-    go (Ok groups) named = elim (feasible_or_refused n groups net (named_groups n text groups net named)) [
-      | inl feasible ↦ (Ok groups, record { named = named; feasible = feasible })
-      | inr refused ↦ (Err refused.0, groups_refused n text groups refused.0 named refused.1)
-    ]
+    go : (g : Result (List Group) GroupError) → groups_in n text ≡ g → IsAnswer n text (by_groups n g)
+    go (Err e) named = line_refused n text e named
+    go (Ok groups) named = missing_is n text groups net named (first_of (is_missing n groups) (length n.signals)) (first_is (is_missing n groups) (length n.signals))
 
 -- why a text is refused: by a line, or by its groups
 Refusal : NetLists → List ℕ → GroupError → Type 0
@@ -241,6 +263,8 @@ one_answer n text (Err e) (Ok others) net a b = not_both n text others e net b a
 one_answer n text (Err e) (Err f) net a b = ap Err (one_refusal n text f e b a)
 
 pub has_one_answer : (n : NetLists) (text : List ℕ) → IsNet n → HasOneAnswer n text
-has_one_answer n text net =
-    let a = answer_of n text net in
-    record { answer = a.0; is = a.1; only = λ other b. one_answer n text a.0 other net a.1 b }
+has_one_answer n text net = record {
+  answer = answer_of n text;
+  is = answer_is n text net;
+  only = λ other b. one_answer n text (answer_of n text) other net (answer_is n text net) b;
+}

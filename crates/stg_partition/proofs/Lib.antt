@@ -16,3 +16,4 @@ pub mod Feasible
 pub mod GoodRows
 pub mod NamedGroups
 pub mod Answered
+pub mod PartitionExamples
