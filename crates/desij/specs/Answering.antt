@@ -1,5 +1,5 @@
 -- The answer to a text: its parts, or the line that refuses it.
-use Rattle.std.specs.Prelude.{◌≡◌, ◌⊎◌, ℕ, List, ◌∷◌, [], ◌++◌, codes}
+use Rattle.std.specs.Prelude.{◌≡◌, ◌⊎◌, ℕ, List, ◌∷◌, [], ◌++◌, None, codes}
 use Rattle.stg_net.specs.declared.limits.TheConstants.Limits.{SPEC}
 use Rattle.stg_net.specs.Initial.{graph_of}
 use Rattle.stg_net.specs.Spec.{SpecLists}
@@ -23,7 +23,7 @@ pub record HasAnswer (text : List ℕ) (parts : List Part) : Type 0 where
   pub spec : SpecLists
   pub stands : StandsFor SPEC text spec
   pub no_clash : HasNoAutoConflict (graph_of spec.net)
-  pub made : AreParts spec.net parts
+  pub made : AreParts spec.net None parts
   pub components : AreComponents spec.net (nets_of parts)
   pub read_back : AreReadBack (nets_of parts)
 

@@ -68,9 +68,11 @@ fn answer_of(alloc: Global, text: &[u8], spec: &Spec) -> Result<Answer, Unmade>
     ensures fit { IfOk result (λ a. All (λ (p : Part). IsWritable p.net) a.parts) }
     ensures refused { IfErr result (λ e. IsTold text.now e) }
 {
-    match decompose(alloc, spec) {
+    match decompose(alloc, spec, None) {
         Ok(answer) => Ok(answer),
         Err(DecompError::Clash(clash)) => Err(refuse_by_clash(alloc, text, spec, clash)),
+        // Without a partition nothing of it is refused.
+        Err(DecompError::Groups(_)) => unreachable!(),
         Err(DecompError::NoMemory) => Err(Unmade::NoMemory),
     }
 }

@@ -7,3 +7,4 @@ pub mod SettledNets
 pub mod DerivedParts
 pub mod Meaning
 pub mod ReadBack
+pub mod Refusals

@@ -9,9 +9,10 @@ use Rattle.stg_net.specs.Ordered.{ordered}
 use Rattle.astg_write.specs.ReadsBack.{AreReadBack}
 use Rattle.astg_write.specs.Writable.{IsWritable}
 use Rattle.astg_write.proofs.WrittenBack.{component-reads_back}
+use Rattle.stg_laws.specs.PlainGroups.{Group}
 use Rattle.stg_derive.specs.declared.part.Part.{Part}
 use Rattle.stg_decomp.specs.Settled.{no_part, part_at, shared_in, settled_part, settled_parts}
-use Rattle.stg_decomp.specs.Parts.{AreParts, nets_of}
+use Rattle.stg_decomp.specs.Parts.{ArePartsOf, nets_of}
 
 -- what is put in order for the i-th part
 abbrev component_of : List Part → ℕ → NetLists
@@ -25,8 +26,8 @@ net-ordered derived k none below =
     ∙ ap (λ (p : Part). p.net) (get_or-map-range_with_len (settled_part derived) 0 (length derived) k k no_part below (zero-add k))
 
 -- parts whose nets can be written are read back
-pub parts_are_read_back : (n : NetLists) (parts : List Part) → AreParts n parts → All IsNet (nets_of parts) → All (λ (p : Part). IsWritable p.net) parts → length parts ≤ 250 → AreReadBack (nets_of parts)
-parts_are_read_back n parts are nets writable few k none there =
+pub parts_are_read_back : (n : NetLists) (groups : List Group) (parts : List Part) → ArePartsOf n groups parts → All IsNet (nets_of parts) → All (λ (p : Part). IsWritable p.net) parts → length parts ≤ 250 → AreReadBack (nets_of parts)
+parts_are_read_back n groups parts are nets writable few k none there =
     let parts_there : k < length parts = omega (arith, there, length-map parts (λ (p : Part). p.net)) in
     let below : k < length are.derived = omega (arith, parts_there, ap (λ (ps : List Part). length ps) are.are_settled, length-map-range_with_len (settled_part are.derived) 0 (length are.derived)) in
     let same : get_or (nets_of parts) k none ≡ (get_or parts k no_part).net = get_or-map_in (λ (p : Part). p.net) parts k no_part none parts_there in

@@ -1,7 +1,9 @@
--- The parts of a specification: those of the plain groups' derivations, settled among each other.
-use Rattle.std.specs.Prelude.{◌≡◌, ◌<◌, ℕ, List, [], length, map, slice_index_or}
+-- The parts of a specification: those of its groups' derivations, settled among each other. The
+-- groups are the plain ones, or those that a text names.
+use Rattle.std.specs.Prelude.{◌≡◌, ◌<◌, ℕ, List, [], length, map, slice_index_or, Option, Some, None}
 use Rattle.stg_net.specs.Net.{NetLists}
 use Rattle.stg_laws.specs.PlainGroups.{Group, ArePlainGroups}
+use Rattle.stg_partition.specs.Partition.{ArePartition}
 use Rattle.stg_derive.specs.declared.part.Part.{Part}
 use Rattle.stg_derive.specs.Derivations.{IsDerivedPart}
 use Rattle.stg_decomp.specs.Settled.{no_part, part_at, settled_parts}
@@ -14,18 +16,28 @@ no_group = record { own = []; known = [] }
 abbrev pub group_in : List Group → ℕ → Group
 group_in groups i = slice_index_or groups i no_group
 
+-- the groups are the plain ones, or the feasible ones that the text names
+abbrev pub AreGroupsOf : NetLists → Option (List ℕ) → List Group → Type 0
+AreGroupsOf n None groups = ArePlainGroups n groups
+AreGroupsOf n (Some text) groups = ArePartition n text groups
+
 -- the parts are those of the groups' plain derivations, in the order of the groups
 pub record AreDerived (n : NetLists) (groups : List Group) (parts : List Part) : Type 0 where
   pub as_many : length parts ≡ length groups
   pub each : (i : ℕ) → i < length groups → IsDerivedPart n (group_in groups i) (part_at parts i)
 
--- the parts are those of the plain groups' derivations, settled among each other
-pub record AreParts (n : NetLists) (parts : List Part) : Type 0 where
-  pub groups : List Group
-  pub plain : ArePlainGroups n groups
+-- the parts are those of the groups' plain derivations, settled among each other
+pub record ArePartsOf (n : NetLists) (groups : List Group) (parts : List Part) : Type 0 where
   pub derived : List Part
   pub are_derived : AreDerived n groups derived
   pub are_settled : parts ≡ settled_parts derived
+
+-- so they are, for the plain groups or those that a text names
+pub record AreParts (n : NetLists) (partition : Option (List ℕ))
+    (parts : List Part) : Type 0 where
+  pub groups : List Group
+  pub are_groups : AreGroupsOf n partition groups
+  pub are_parts : ArePartsOf n groups parts
 
 -- the nets of the parts
 abbrev pub nets_of : List Part → List NetLists

@@ -1,18 +1,20 @@
-//! One part for each plain group.
+//! One part for each group.
 
-ghost use Rattle.std.specs.Prelude.{◌≡◌, ◌<◌, ◌≤◌, ◌^◌, ◌↔◌, None, length, All, IfOk, IfSome};
+ghost use Rattle.std.specs.Prelude.{◌≡◌, ◌<◌, ◌≤◌, ◌^◌, ◌↔◌, ◌⊎◌, None, length, All, IfOk, IfErr, IfSome};
+ghost use Rattle.std.specs.Option.{option_copied};
 ghost use Rattle.stg_net.specs.declared.limits.TheConstants.Limits.{SPEC, PART};
 ghost use Rattle.stg_net.specs.Net.{IsNet, IsWithin};
 ghost use Rattle.stg_net.specs.Initial.{graph_of};
 ghost use Rattle.stg_laws.specs.Conflict.{HasNoAutoConflict, IsLeastClash};
 ghost use Rattle.stg_laws.specs.Faithful.{AreComponents};
-ghost use Rattle.stg_laws.specs.PlainGroups.{ArePlainGroups, AreClosed};
-ghost use Rattle.stg_decomp.specs.Telling.{clash_told};
+ghost use Rattle.stg_laws.specs.PlainGroups.{AreFeasible, AreClosed};
+ghost use Rattle.stg_decomp.specs.Telling.{clash_told, refusal_told, IsPartitionRefusedBy};
 ghost use Rattle.stg_derive.specs.declared.part.Part.{Part};
 ghost use Rattle.stg_derive.specs.Derivations.{IsDerivedPart};
 ghost use Rattle.stg_derive.specs.Loggable.{IsLoggable};
-ghost use Rattle.stg_decomp.specs.Parts.{AreDerived, AreParts, nets_of};
+ghost use Rattle.stg_decomp.specs.Parts.{AreGroupsOf, AreDerived, ArePartsOf, AreParts, nets_of};
 ghost use Rattle.stg_decomp.specs.Parts as parts;
+ghost use Rattle.stg_decomp.specs.inner.Refusing.{refused_groups};
 ghost use Rattle.astg_write.specs.Writable.{IsWritable};
 ghost use Rattle.astg_write.specs.ReadsBack.{AreReadBack};
 
@@ -22,7 +24,7 @@ use std::alloc::Global;
 use stg_conflict::no_auto_conflict;
 use stg_derive::{Part, derive};
 use stg_net::{NoMemory, Seq, Spec};
-use stg_partition::{Group, plain_groups};
+use stg_partition::{Group, GroupError, plain_groups, read_groups};
 
 /// The group of number i.
 fn group_at(groups: &[Group], i: u32) -> &Group
@@ -35,7 +37,7 @@ fn group_at(groups: &[Group], i: u32) -> &Group
 /// Derives the part of the group of number i.
 fn derive_one(alloc: Global, spec: &Spec, groups: &[Group], i: u32) -> Result<Part, NoMemory>
     requires within { IsWithin SPEC spec.now.net }
-    requires plain { ArePlainGroups spec.now.net groups.now }
+    requires feasible { AreFeasible spec.now.net groups.now }
     requires closed { AreClosed spec.now.net groups.now }
     requires no_conflict { HasNoAutoConflict (graph_of spec.now.net) }
     requires there { i < length groups.now }
@@ -52,7 +54,7 @@ fn derive_one(alloc: Global, spec: &Spec, groups: &[Group], i: u32) -> Result<Pa
 /// Derives the part of each group, in their order.
 fn derive_all(alloc: Global, spec: &Spec, groups: &[Group]) -> Result<Seq<Part>, NoMemory>
     requires within { IsWithin SPEC spec.now.net }
-    requires plain { ArePlainGroups spec.now.net groups.now }
+    requires feasible { AreFeasible spec.now.net groups.now }
     requires closed { AreClosed spec.now.net groups.now }
     requires no_conflict { HasNoAutoConflict (graph_of spec.now.net) }
     requires few { length groups.now < 2 ^ 32 }
@@ -69,11 +71,34 @@ fn derive_all(alloc: Global, spec: &Spec, groups: &[Group]) -> Result<Seq<Part>,
     Ok(parts)
 }
 
-/// The settled parts of a specification without structural auto-conflicts.
-fn make_answer(alloc: Global, spec: &Spec) -> Result<Answer, NoMemory>
+/// The groups that the text names, or the plain ones.
+fn find_groups(
+    alloc: Global,
+    spec: &Spec,
+    partition: Option<&[u8]>,
+) -> Result<Seq<Group>, GroupError>
+    ensures groups { IfOk result
+        (λ groups. AreGroupsOf spec.now.net (option_copied partition.entry) groups) }
+    ensures closed { IfOk result (λ groups. AreClosed spec.now.net groups) }
+    ensures refused { IfErr result (λ e. (e ≡ GroupError.NoMemory)
+        ⊎ IsPartitionRefusedBy spec.now.net (option_copied partition.entry) e) }
+{
+    match partition {
+        None => match plain_groups(alloc, spec) {
+            Ok(groups) => Ok(groups),
+            Err(NoMemory) => Err(GroupError::NoMemory),
+        },
+        Some(text) => read_groups(alloc, spec, text),
+    }
+}
+
+/// The settled parts of the groups of a specification without structural auto-conflicts.
+fn make_answer(alloc: Global, spec: &Spec, groups: &[Group]) -> Result<Answer, NoMemory>
     requires within { IsWithin SPEC spec.now.net }
     requires no_conflict { HasNoAutoConflict (graph_of spec.now.net) }
-    ensures parts { IfOk result (λ answer. AreParts spec.now.net answer.parts) }
+    requires feasible { AreFeasible spec.now.net groups.now }
+    requires closed { AreClosed spec.now.net groups.now }
+    ensures parts { IfOk result (λ answer. ArePartsOf spec.now.net groups.now answer.parts) }
     ensures few { IfOk result (λ answer. length answer.parts ≤ PART.signals) }
     ensures writable { IfOk result
         (λ answer. All (λ (part : Part). IsWritable part.net) answer.parts) }
@@ -82,22 +107,38 @@ fn make_answer(alloc: Global, spec: &Spec) -> Result<Answer, NoMemory>
     ensures reads_back { IfOk result (λ answer. AreReadBack (nets_of answer.parts)) }
 {
     let _net = spec.net();
-    let groups = plain_groups(alloc, spec)?;
-    let derived = derive_all(alloc, spec, groups.as_slice())?;
+    let derived = derive_all(alloc, spec, groups)?;
     let parts = settle_all(alloc, derived)?;
     Ok(Answer { parts })
 }
 
-/// Decomposes a specification: one part for each plain group, in their order, which is that of the
-/// group's plain derivation, settled among the others. Each part's net has exactly the
-/// specification's traces on its signals; together they are a correct decomposition of it, where it
-/// is deterministic. Each net can be written and is read back from its text, and the records and
-/// steps of each part can be logged.
+/// Why the groups weren't found, as the answer tells it.
+fn refuse(error: GroupError) -> DecompError
+    ensures { result ≡ refused_groups error }
+{
+    match error {
+        GroupError::NoMemory => DecompError::NoMemory,
+        refusal => DecompError::Groups(refusal),
+    }
+}
+
+/// Decomposes a specification: one part for each group, in their order, which is that of the
+/// group's plain derivation, settled among the others. The groups are those that the text names, or
+/// without a text the plain ones. Each part's net has exactly the specification's traces on its
+/// signals; together they are a correct decomposition of it, where it is deterministic. Each net
+/// can be written and is read back from its text, and the records and steps of each part can be
+/// logged.
 ///
-/// A specification with a structural auto-conflict is answered by the least one.
-pub fn decompose(alloc: Global, spec: &Spec) -> Result<Answer, DecompError>
+/// A specification with a structural auto-conflict is answered by the least one, whatever the text
+/// is; another one by the refusal of the text, where it is refused.
+pub fn decompose(
+    alloc: Global,
+    spec: &Spec,
+    partition: Option<&[u8]>,
+) -> Result<Answer, DecompError>
     requires { IsWithin SPEC spec.now.net }
-    ensures parts { IfOk result (λ answer. AreParts spec.now.net answer.parts) }
+    ensures parts { IfOk result
+        (λ answer. AreParts spec.now.net (option_copied partition.entry) answer.parts) }
     ensures few { IfOk result (λ answer. length answer.parts ≤ PART.signals) }
     ensures writable { IfOk result
         (λ answer. All (λ (part : Part). IsWritable part.net) answer.parts) }
@@ -107,12 +148,18 @@ pub fn decompose(alloc: Global, spec: &Spec) -> Result<Answer, DecompError>
     ensures clash { IfSome (clash_told result)
         (λ c. IsLeastClash (graph_of spec.now.net) c.t1 c.t2 c.place) }
     ensures none { clash_told result ≡ None ↔ HasNoAutoConflict (graph_of spec.now.net) }
+    ensures groups { IfSome (refusal_told result)
+        (IsPartitionRefusedBy spec.now.net (option_copied partition.entry)) }
 {
     match no_auto_conflict(spec.net()) {
         Ok(()) => {}
         Err(clash) => return Err(DecompError::Clash(clash)),
     }
-    match make_answer(alloc, spec) {
+    let groups = match find_groups(alloc, spec, partition) {
+        Ok(groups) => groups,
+        Err(error) => return Err(refuse(error)),
+    };
+    match make_answer(alloc, spec, groups.as_slice()) {
         Ok(answer) => Ok(answer),
         Err(NoMemory) => Err(DecompError::NoMemory),
     }

@@ -12,7 +12,7 @@ pub derive-requires-clause-in_range : goal.derive-requires-clause-in_range
 derive-requires-clause-in_range c =
     let n = c.args.spec.now.net in
     let P : Group → Type 0 = λ g. AreInRange n g.known in
-    subst P (sym c.group_at.ensures) (known_in_range n c.args.groups.now c.requires.plain c.args.i c.requires.there)
+    subst P (sym c.group_at.ensures) (known_in_range n c.args.groups.now c.requires.feasible c.args.i c.requires.there)
 
 pub derive-requires-clause-closed : goal.derive-requires-clause-closed
 derive-requires-clause-closed c =
