@@ -235,9 +235,10 @@ same_refused n groups (errors.SplitConflict x y p) errors.NoMemory r s = absurd 
 same_refused n groups (errors.SplitConflict x y p) (errors.OutputMissing v) r s = absurd (r.0 v s.missing)
 same_refused n groups (errors.SplitConflict x y p) (errors.SplitConflict v w q) r s = same_split n groups x y p v w q r.1 s.1
 
-not_both : {A : Type 0} (n : NetLists) (text : List ℕ) (groups : List Group) (e : GroupError) → IsNet n → ArePartition n text groups → IsRefusedBy n text e → A
+-- a partition isn't refused
+pub partition-not_refused : {A : Type 0} (n : NetLists) (text : List ℕ) (groups : List Group) (e : GroupError) → IsNet n → ArePartition n text groups → IsRefusedBy n text e → A
 unfolding Refusal
-not_both n text groups e net a r = elim (refusal n text e r) [
+partition-not_refused n text groups e net a r = elim (refusal n text e r) [
   | inl f ↦ no_ok groups e (sym a.named ∙ f)
   | inr f ↦ absurd (feasible_not_refused n groups e net a.feasible (subst (λ gs. AreRefusedBy n gs e) (same_ok f.0 groups (sym f.1 ∙ a.named)) f.2))
 ]
@@ -258,8 +259,8 @@ one_refusal n text e f r s = elim (refusal n text e r) [
 -- and no other
 one_answer : (n : NetLists) (text : List ℕ) (r s : Result (List Group) GroupError) → IsNet n → IsAnswer n text r → IsAnswer n text s → s ≡ r
 one_answer n text (Ok groups) (Ok others) net a b = sym b.named ∙ a.named
-one_answer n text (Ok groups) (Err f) net a b = not_both n text groups f net a b
-one_answer n text (Err e) (Ok others) net a b = not_both n text others e net b a
+one_answer n text (Ok groups) (Err f) net a b = partition-not_refused n text groups f net a b
+one_answer n text (Err e) (Ok others) net a b = partition-not_refused n text others e net b a
 one_answer n text (Err e) (Err f) net a b = ap Err (one_refusal n text f e b a)
 
 pub has_one_answer : (n : NetLists) (text : List ℕ) → IsNet n → HasOneAnswer n text

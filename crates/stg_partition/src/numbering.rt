@@ -53,14 +53,3 @@ pub(crate) fn find_unnumbered(net: &Net, numbers: &[Option<usize>]) -> Option<u3
     }
     None
 }
-
-/// Whether both are the same number.
-pub(crate) fn are_same(one: Option<usize>, other: Option<usize>) -> bool
-    ensures { result ≡ lists.are_same one other }
-{
-    match (one, other) {
-        (Some(j), Some(k)) => j == k,
-        (Some(_), None) => false,
-        (None, other) => other.is_none(),
-    }
-}

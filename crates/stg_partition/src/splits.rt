@@ -7,7 +7,6 @@ ghost use Rattle.stg_partition.specs.inner.Splits as lists;
 ghost use Rattle.stg_partition.specs.inner.Splits.{AreLeastTakers, IsFound, with_lesser};
 
 use crate::join::{no_takers, own_taker};
-use crate::numbering::are_same;
 use std::alloc::Global;
 use stg_net::{Net, NetArc, NoMemory};
 
@@ -87,14 +86,13 @@ fn split_of(
 {
     match (taker, other) {
         (Some(x), Some(y)) => {
-            if are_same(numbers[x as usize], numbers[y as usize]) {
+            if numbers[x as usize] == numbers[y as usize] {
                 None
             } else {
                 Some(Split { x, y, place })
             }
         }
-        (Some(_), None) => None,
-        (None, _) => None,
+        _ => None,
     }
 }
 
