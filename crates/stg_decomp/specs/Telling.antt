@@ -3,7 +3,7 @@ use Rattle.std.specs.Prelude.{ℕ, List, Option, None, Some, Result, Ok, Err}
 use Rattle.stg_net.specs.Net.{NetLists}
 use Rattle.stg_conflict.specs.declared.clash.Clash.{Clash}
 use Rattle.stg_partition.specs.declared.error.GroupError.{GroupError}
-use Rattle.stg_partition.specs.Partition.{IsRefusedBy}
+use Rattle.stg_partition.specs.Partition.{IsRefusedPartition}
 use Rattle.stg_decomp.specs.declared.error.DecompError.{DecompError}
 use Rattle.stg_decomp.specs.declared.error.DecompError.TheVariants as decomp_error
 use Rattle.stg_decomp.specs.declared.part.Answer.{Answer}
@@ -25,4 +25,4 @@ refusal_told (Err decomp_error.NoMemory) = None
 -- a text is given, and it is refused by this error
 abbrev pub IsPartitionRefusedBy : NetLists → Option (List ℕ) → GroupError → Type 0
 IsPartitionRefusedBy n None e = ⊥
-IsPartitionRefusedBy n (Some text) e = IsRefusedBy n text e
+IsPartitionRefusedBy n (Some text) e = IsRefusedPartition n text e

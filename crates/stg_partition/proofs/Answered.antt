@@ -12,7 +12,7 @@ use Rattle.stg_partition.specs.declared.error.GroupError.{GroupError}
 use Rattle.stg_partition.specs.declared.error.GroupError.TheVariants as errors
 use Rattle.stg_partition.specs.declared.splits.Split.{Split}
 use Rattle.stg_partition.specs.PartitionText.{Row, rows_of}
-use Rattle.stg_partition.specs.Partition.{row_group, row_groups, groups_in, stands_in, is_missing, AreWhole, IsLeastSplit, ArePartition, IsRefusedBy, IsAnswer, HasOneAnswer}
+use Rattle.stg_partition.specs.Partition.{row_group, row_groups, groups_in, stands_in, is_missing, AreWhole, IsLeastSplit, ArePartition, IsRefusedPartition, IsAnswer, HasOneAnswer}
 use Rattle.stg_partition.specs.inner.Naming.{AreNamedGroups, AreRefusedBy}
 use Rattle.stg_partition.specs.inner.Numbers.{group_number, AreNumbers}
 use Rattle.stg_partition.specs.inner.Splits.{least_takers, least_split, AreLeastTakers}
@@ -47,10 +47,10 @@ of_refused n text e f = go (rows_of n.signals text) refl
         subst IsOfLine same (refused_line n.signals text g r_is)
 
 -- a line's refusal is the text's
-pub line_refused : (n : NetLists) (text : List ℕ) (e : GroupError) → groups_in n text ≡ Err e → IsRefusedBy n text e
+pub line_refused : (n : NetLists) (text : List ℕ) (e : GroupError) → groups_in n text ≡ Err e → IsRefusedPartition n text e
 line_refused n text e f = go e (of_refused n text e f) f
   where
-    go : (g : GroupError) → IsOfLine g → groups_in n text ≡ Err g → IsRefusedBy n text g
+    go : (g : GroupError) → IsOfLine g → groups_in n text ≡ Err g → IsRefusedPartition n text g
     go (errors.BadLine line) is h = h
     go (errors.UnknownOutput line) is h = h
     go (errors.OutputTwice line) is h = h
@@ -59,7 +59,7 @@ line_refused n text e f = go e (of_refused n text e f) f
     go errors.NoMemory is h = absurd is
 
 -- and so is that of its groups
-pub groups_refused : (n : NetLists) (text : List ℕ) (groups : List Group) (e : GroupError) → groups_in n text ≡ Ok groups → AreRefusedBy n groups e → IsRefusedBy n text e
+pub groups_refused : (n : NetLists) (text : List ℕ) (groups : List Group) (e : GroupError) → groups_in n text ≡ Ok groups → AreRefusedBy n groups e → IsRefusedPartition n text e
 groups_refused n text groups (errors.BadLine line) named r = absurd r
 groups_refused n text groups (errors.UnknownOutput line) named r = absurd r
 groups_refused n text groups (errors.OutputTwice line) named r = absurd r
@@ -173,7 +173,7 @@ answer_is n text net = go (groups_in n text) refl
 Refusal : NetLists → List ℕ → GroupError → Type 0
 Refusal n text e = (groups_in n text ≡ Err e) ⊎ ((groups : List Group) × (groups_in n text ≡ Ok groups) × AreRefusedBy n groups e)
 
-refusal : (n : NetLists) (text : List ℕ) (e : GroupError) → IsRefusedBy n text e → Refusal n text e
+refusal : (n : NetLists) (text : List ℕ) (e : GroupError) → IsRefusedPartition n text e → Refusal n text e
 unfolding Refusal
 refusal n text (errors.BadLine line) r = inl r
 refusal n text (errors.UnknownOutput line) r = inl r
@@ -236,14 +236,14 @@ same_refused n groups (errors.SplitConflict x y p) (errors.OutputMissing v) r s 
 same_refused n groups (errors.SplitConflict x y p) (errors.SplitConflict v w q) r s = same_split n groups x y p v w q r.1 s.1
 
 -- a partition isn't refused
-pub partition-not_refused : {A : Type 0} (n : NetLists) (text : List ℕ) (groups : List Group) (e : GroupError) → IsNet n → ArePartition n text groups → IsRefusedBy n text e → A
+pub partition-not_refused : {A : Type 0} (n : NetLists) (text : List ℕ) (groups : List Group) (e : GroupError) → IsNet n → ArePartition n text groups → IsRefusedPartition n text e → A
 unfolding Refusal
 partition-not_refused n text groups e net a r = elim (refusal n text e r) [
   | inl f ↦ no_ok groups e (sym a.named ∙ f)
   | inr f ↦ absurd (feasible_not_refused n groups e net a.feasible (subst (λ gs. AreRefusedBy n gs e) (same_ok f.0 groups (sym f.1 ∙ a.named)) f.2))
 ]
 
-one_refusal : (n : NetLists) (text : List ℕ) (e f : GroupError) → IsRefusedBy n text e → IsRefusedBy n text f → e ≡ f
+one_refusal : (n : NetLists) (text : List ℕ) (e f : GroupError) → IsRefusedPartition n text e → IsRefusedPartition n text f → e ≡ f
 unfolding Refusal
 one_refusal n text e f r s = elim (refusal n text e r) [
   | inl a ↦ elim (refusal n text f s) [

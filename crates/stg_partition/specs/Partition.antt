@@ -92,18 +92,20 @@ pub record SplitsConflict (n : NetLists) (text : List ℕ) (x y place : ℕ) : T
   pub least : IsLeastSplit n groups x y place
 
 -- the error tells why the text names no partition
-abbrev pub IsRefusedBy : NetLists → List ℕ → GroupError → Type 0
-IsRefusedBy n text (errors.BadLine line) = groups_in n text ≡ Err (errors.BadLine line)
-IsRefusedBy n text (errors.UnknownOutput line) = groups_in n text ≡ Err (errors.UnknownOutput line)
-IsRefusedBy n text (errors.OutputTwice line) = groups_in n text ≡ Err (errors.OutputTwice line)
-IsRefusedBy n text (errors.OutputMissing s) = MissesOutput n text s
-IsRefusedBy n text (errors.SplitConflict x y place) = SplitsConflict n text x y place
-IsRefusedBy n text errors.NoMemory = ⊥
+abbrev pub IsRefusedPartition : NetLists → List ℕ → GroupError → Type 0
+IsRefusedPartition n text (errors.BadLine line) = groups_in n text ≡ Err (errors.BadLine line)
+IsRefusedPartition n text (errors.UnknownOutput line) =
+    groups_in n text ≡ Err (errors.UnknownOutput line)
+IsRefusedPartition n text (errors.OutputTwice line) =
+    groups_in n text ≡ Err (errors.OutputTwice line)
+IsRefusedPartition n text (errors.OutputMissing s) = MissesOutput n text s
+IsRefusedPartition n text (errors.SplitConflict x y place) = SplitsConflict n text x y place
+IsRefusedPartition n text errors.NoMemory = ⊥
 
 -- the text names these groups, which are feasible, or is refused by this error
 abbrev pub IsAnswer : NetLists → List ℕ → Result (List Group) GroupError → Type 0
 IsAnswer n text (Ok groups) = ArePartition n text groups
-IsAnswer n text (Err e) = IsRefusedBy n text e
+IsAnswer n text (Err e) = IsRefusedPartition n text e
 
 -- the text has this answer and no other
 pub record HasOneAnswer (n : NetLists) (text : List ℕ) : Type 0 where

@@ -4,7 +4,7 @@ ghost use Rattle.std.specs.Prelude.{◌≡◌, ◌≤◌, ◌<◌, ◌⊎◌, �
 ghost use Rattle.stg_net.specs.declared.limits.TheConstants.Limits.{PART};
 ghost use Rattle.stg_net.specs.Ordered.{numbers_where};
 ghost use Rattle.stg_laws.specs.PlainGroups.{AreFeasible, AreClosed};
-ghost use Rattle.stg_partition.specs.Partition.{is_named_in, row_group, ArePartition, IsRefusedBy};
+ghost use Rattle.stg_partition.specs.Partition.{is_named_in, row_group, ArePartition, IsRefusedPartition};
 ghost use Rattle.stg_partition.specs.inner.WordTexts.{texts_of, all_texts};
 ghost use Rattle.stg_partition.specs.inner.Naming.{AreNamedGroups, AreRefusedBy};
 
@@ -92,7 +92,7 @@ pub fn read_groups(alloc: Global, spec: &Spec, text: &[u8]) -> Result<Seq<Group>
     ensures closed { IfOk result (λ groups. AreClosed spec.now.net groups) }
     ensures few { IfOk result (λ groups. length groups ≤ PART.signals) }
     ensures refused { IfErr result
-        (λ e. (e ≡ GroupError.NoMemory) ⊎ IsRefusedBy spec.now.net text.now e) }
+        (λ e. (e ≡ GroupError.NoMemory) ⊎ IsRefusedPartition spec.now.net text.now e) }
 {
     let net = spec.net();
     let rows = match read_rows(alloc, net, text) {

@@ -2,7 +2,7 @@ use Rattle.std.proofs.Common.{◌≡◌, ◌∙◌, map, Ok, sym, ap, subst, ari
 use Rattle.stg_net.specs.Net.{NetLists, IsNet}
 use Rattle.stg_laws.specs.PlainGroups.{AreFeasible}
 use Rattle.stg_laws.proofs.FeasibleGroups.{feasible_closed, feasible_few}
-use Rattle.stg_partition.specs.Partition.{row_group, row_groups, groups_in, IsRefusedBy}
+use Rattle.stg_partition.specs.Partition.{row_group, row_groups, groups_in, IsRefusedPartition}
 use Rattle.stg_partition.specs.inner.WordTexts.{all_texts}
 use Rattle.stg_partition.proofs.Answered.{named_groups, line_refused}
 use Rattle.stg_partition.proofs.partition.read_groups.Goals as goal
@@ -11,7 +11,7 @@ pub returns-in-Err-clause-refused : goal.returns-in-Err-clause-refused
 returns-in-Err-clause-refused c =
     let m = c.net-net.result.now in
     let e = c.in-Err.error in
-    let P : NetLists → Type 0 = λ n. IsRefusedBy n c.args.text.now e in
+    let P : NetLists → Type 0 = λ n. IsRefusedPartition n c.args.text.now e in
     elim c.in-Err.ensures.refused [
       | inl none ↦ inl none
       | inr refused ↦ inr (subst P c.net-net.ensures.net (line_refused m c.args.text.now e (ap (row_groups m) refused)))
