@@ -1,0 +1,14 @@
+pub mod BadLines
+pub mod Examples
+pub mod FirstLines
+pub mod Gaps
+pub mod KeyPlaces
+pub mod Lone
+pub mod OneLog
+pub mod Pieces
+pub mod ReadSteps
+pub mod ToldRows
+pub mod TransPlaces
+pub mod WholeLogs
+pub mod WrittenNumbers
+pub mod WrittenRows

@@ -1,0 +1,4 @@
+pub mod LogText
+pub mod Logs
+pub mod Laws
+pub mod inner
