@@ -126,8 +126,8 @@ module _ (n : NetLists) (net : IsNet n) where
           counted = (let c = later.counted in omega (arith, c));
           within = (let l = later.within in omega (arith, l, ends_one));
           begins = subst (λ l. BeginsLog n l)
-          (ap (λ l. l ++ first_lines later.behind rest) more_text ∙ append_assoc (begun n log) (w ++ 10 ∷ []) (first_lines later.behind rest)
-          ∙ ap (λ l. begun n log ++ l) (append_assoc w (10 ∷ []) (first_lines later.behind rest) ∙ sym (first_lines-line later.behind w rest lack))) later.begins;
+              (ap (λ l. l ++ first_lines later.behind rest) more_text ∙ append_assoc (begun n log) (w ++ 10 ∷ []) (first_lines later.behind rest)
+              ∙ ap (λ l. begun n log ++ l) (append_assoc w (10 ∷ []) (first_lines later.behind rest) ∙ sym (first_lines-line later.behind w rest lack))) later.begins;
           always = λ below more.
               reads (suc later.behind) more
               ∙ (λ j. let ps = pieces 10 (first_lines (suc later.behind) rest ++ more) in cond (other j) (cond (is_over ps) (Ok log) (Err (number + 1))) (or_bad number (some j) (log_after n (number + 1) (unwrap_or (some j) log) ps)))

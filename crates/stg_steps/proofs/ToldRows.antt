@@ -112,9 +112,10 @@ module _ (n : NetLists) where
           let verdict = told-verdict rest v too in
           let signal = (trans_at n.trans a).signal in
           elim (by_test (bytes_eq name (signal_at n.signals signal).name) (Some (record { signal = signal; trans = a; verdict = v })) None r h) [
-            | inl y ↦ same_some (ToldRecord (w ∷ name ∷ t ∷ rest)) (record { signal = signal; trans = a; verdict = v }) r y.1
-              ((λ j. is j ∷ is_word name (signal_at n.signals signal).name y.0 j ∷ trans.1 j ∷ verdict.0 j),
-              record { there = trans.0; signal_there = net.trans_signals a no_trans trans.0; signal_is = refl; verdict = verdict.1 })
+            | inl y ↦ same_some (ToldRecord (w ∷ name ∷ t ∷ rest)) (record { signal = signal; trans = a; verdict = v }) r y.1 (
+              (λ j. is j ∷ is_word name (signal_at n.signals signal).name y.0 j ∷ trans.1 j ∷ verdict.0 j),
+              record { there = trans.0; signal_there = net.trans_signals a no_trans trans.0; signal_is = refl; verdict = verdict.1 },
+            )
             | inr z ↦ absurd (never r z.1)
           ]
 

@@ -81,21 +81,23 @@ module _ (n : NetLists) (net : IsNet n) where
   adds-record log row r none can is h =
       let lines = restore_lines n log.restored in
       let line = line_of (restore_words n r) in
-      let no_steps : step_lines n log.steps ≡ [] = ap (step_lines n) none in
-      (record { records = All-push (IsLoggableRecord n) log.restored r can.records h; steps = can.steps },
-      ap (λ l. l ++ step_lines n log.steps) (lines-push (λ q. line_of (restore_words n q)) log.restored r)
-      ∙ ap (λ l. (lines ++ line) ++ l) no_steps ∙ append-nil (lines ++ line)
-      ∙ sym (ap (λ l. (lines ++ l) ++ line) no_steps ∙ ap (λ l. l ++ line) (append-nil lines))
-      ∙ ap (λ w. begun n log ++ line_of w) (sym is))
+      let no_steps : step_lines n log.steps ≡ [] = ap (step_lines n) none in (
+        record { records = All-push (IsLoggableRecord n) log.restored r can.records h; steps = can.steps },
+        ap (λ l. l ++ step_lines n log.steps) (lines-push (λ q. line_of (restore_words n q)) log.restored r)
+            ∙ ap (λ l. (lines ++ line) ++ l) no_steps ∙ append-nil (lines ++ line)
+            ∙ sym (ap (λ l. (lines ++ l) ++ line) no_steps ∙ ap (λ l. l ++ line) (append-nil lines))
+            ∙ ap (λ w. begun n log ++ line_of w) (sym is),
+      )
 
   adds-step : (log : Log) (row : Row) (s : Step) → CanBeLogged n log → row ≡ step_words n s → IsLoggableStep (length n.trans) s → Adds log row (record log { steps = log.steps ++ s ∷ [] })
   adds-step log row s can is h =
       let lines = restore_lines n log.restored in
-      let line = line_of (step_words n s) in
-      (record { records = can.records; steps = All-push (IsLoggableStep (length n.trans)) log.steps s can.steps h },
-      ap (λ l. lines ++ l) (lines-push (λ q. line_of (step_words n q)) log.steps s)
-      ∙ sym (append_assoc lines (step_lines n log.steps) line)
-      ∙ ap (λ w. begun n log ++ line_of w) (sym is))
+      let line = line_of (step_words n s) in (
+        record { records = can.records; steps = All-push (IsLoggableStep (length n.trans)) log.steps s can.steps h },
+        ap (λ l. lines ++ l) (lines-push (λ q. line_of (step_words n q)) log.steps s)
+            ∙ sym (append_assoc lines (step_lines n log.steps) line)
+            ∙ ap (λ w. begun n log ++ line_of w) (sym is),
+      )
 
   adds-restored : (log : Log) (w : List ℕ) (rest : Row) (new : Log) → CanBeLogged n log → w ≡ codes "restore" → with_restore log (restore_in n (trans_words n) rest) ≡ Some new → Adds log (w ∷ rest) new
   adds-restored log w rest new can is e = by (restore_in n (trans_words n) rest) refl e

@@ -56,8 +56,9 @@ number_in-told w k e = elim (cases_Bool (is_number w)) [
       let r = and_parts (nat_le 1 (length w)) (nat_le (length w) 9) q.0 in
       let value : value_after 0 w ≡ k = some_same (value_after 0 w) k (sym (ap (λ b. cond b (Some (value_after 0 w)) None) test) ∙ e) in
       let some = leb-true 1 (length w) r.0 in
-      let small : value_after 0 w < 10 ^ 9 = digits_value_short own w 9 q.1 (leb-true (length w) 9 r.1) in
-      (omega (arith, value, small),
-      sym (decimal-digits_value own w q.1 (omega (arith, some)) (alone w (not-true (has_leading_zero w) p.1)) (omega (arith, small))) ∙ ap decimal value)
+      let small : value_after 0 w < 10 ^ 9 = digits_value_short own w 9 q.1 (leb-true (length w) 9 r.1) in (
+        omega (arith, value, small),
+        sym (decimal-digits_value own w q.1 (omega (arith, some)) (alone w (not-true (has_leading_zero w) p.1)) (omega (arith, small))) ∙ ap decimal value,
+      )
   | inr test ↦ absurd (some_none k (sym (ap (λ b. cond b (Some (value_after 0 w)) None) test) ∙ e))
 ]

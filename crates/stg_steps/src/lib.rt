@@ -5,7 +5,13 @@ mod laws;
 mod lines;
 mod log;
 mod read;
+#[cfg(test)]
+mod rows;
+#[cfg(test)]
+mod tests;
 mod words;
+#[cfg(test)]
+mod worked;
 mod write;
 
 pub use laws::law_one_log;

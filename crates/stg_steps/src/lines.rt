@@ -68,12 +68,7 @@ fn verdict_in(words: &TransWords, row: &[&[u8]]) -> Option<Verdict>
     }
 }
 
-fn restore_of(
-    net: &Net,
-    name: &[u8],
-    t: Option<u32>,
-    verdict: Option<Verdict>,
-) -> Option<Restore>
+fn restore_of(net: &Net, name: &[u8], t: Option<u32>, verdict: Option<Verdict>) -> Option<Restore>
     requires { IfSome t (λ k. k < length net.now.trans) }
     ensures { result ≡ reading.restore_of net.now name.now t verdict }
 {
@@ -103,9 +98,7 @@ pub(crate) fn restore_in(net: &Net, words: &TransWords, row: &[&[u8]]) -> Option
     match row {
         [] => None,
         [_] => None,
-        [name, t, rest @ ..] => {
-            restore_of(net, *name, words.find(*t), verdict_in(words, rest))
-        }
+        [name, t, rest @ ..] => { restore_of(net, *name, words.find(*t), verdict_in(words, rest)) }
     }
 }
 

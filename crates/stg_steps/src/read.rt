@@ -44,12 +44,7 @@ fn take_step(log: &mut Log, found: Option<Step>) -> Result<bool, NoMemory>
 }
 
 /// Takes a line of these words, and tells whether it is of the form.
-fn take_row(
-    net: &Net,
-    words: &TransWords,
-    log: &mut Log,
-    row: &[&[u8]],
-) -> Result<bool, NoMemory>
+fn take_row(net: &Net, words: &TransWords, log: &mut Log, row: &[&[u8]]) -> Result<bool, NoMemory>
     requires long { length words.now ≡ length net.now.trans }
     requires few { length words.now < 2 ^ 32 }
     ensures { IfOk result
@@ -93,12 +88,7 @@ fn is_end(line: &[u8]) -> bool
 }
 
 /// Reads the lines of a text, the first of which that isn't of the form is told.
-fn read_lines(
-    alloc: Global,
-    net: &Net,
-    words: &TransWords,
-    text: &[u8],
-) -> Result<Log, StepError>
+fn read_lines(alloc: Global, net: &Net, words: &TransWords, text: &[u8]) -> Result<Log, StepError>
     requires words { words.now ≡ reading.trans_words net.now }
     requires few { length net.now.trans < 2 ^ 32 }
     requires short { line_ends text.now < 4294967295 }

@@ -57,12 +57,7 @@ fn push_verdict(alloc: Global, text: &mut Text, net: &Net, verdict: Verdict) -> 
     }
 }
 
-fn push_restore(
-    alloc: Global,
-    text: &mut Text,
-    net: &Net,
-    restore: Restore,
-) -> Result<(), NoMemory>
+fn push_restore(alloc: Global, text: &mut Text, net: &Net, restore: Restore) -> Result<(), NoMemory>
     requires { IsLoggableRecord net.now restore }
     ensures { OnOk result
         (text.new ≡ text.old ++ log_text.line_of (log_text.restore_words net.now restore)) }
@@ -122,7 +117,12 @@ fn push_drop_place(text: &mut Text, found: PlaceFound) -> Result<(), NoMemory>
     text.push(b'\n')
 }
 
-fn push_dummy_rule(alloc: Global, text: &mut Text, net: &Net, rule: DummyRule) -> Result<(), NoMemory>
+fn push_dummy_rule(
+    alloc: Global,
+    text: &mut Text,
+    net: &Net,
+    rule: DummyRule,
+) -> Result<(), NoMemory>
     requires { IsLoggableDummyRule (length net.now.trans) rule }
     ensures { OnOk result
         (text.new ≡ text.old ++ log_text.spaced (log_text.dummy_rule_words net.now rule)) }
@@ -136,7 +136,12 @@ fn push_dummy_rule(alloc: Global, text: &mut Text, net: &Net, rule: DummyRule) -
     }
 }
 
-fn push_drop_dummy(alloc: Global, text: &mut Text, net: &Net, found: DummyFound) -> Result<(), NoMemory>
+fn push_drop_dummy(
+    alloc: Global,
+    text: &mut Text,
+    net: &Net,
+    found: DummyFound,
+) -> Result<(), NoMemory>
     requires trans { found.trans < length net.now.trans }
     requires rule { IsLoggableDummyRule (length net.now.trans) found.rule }
     ensures { OnOk result
@@ -164,7 +169,12 @@ fn push_step(alloc: Global, text: &mut Text, net: &Net, step: Step) -> Result<()
     }
 }
 
-fn push_restores(alloc: Global, text: &mut Text, net: &Net, restored: &[Restore]) -> Result<(), NoMemory>
+fn push_restores(
+    alloc: Global,
+    text: &mut Text,
+    net: &Net,
+    restored: &[Restore],
+) -> Result<(), NoMemory>
     requires { All (IsLoggableRecord net.now) restored.now }
     ensures { OnOk result (text.new ≡ text.old ++ log_text.restore_lines net.now restored.now) }
 {
