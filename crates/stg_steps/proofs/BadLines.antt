@@ -1,6 +1,6 @@
 -- The line that is told is the bad line.
-use Rattle.std.proofs.Common.{◌≡◌, ◌⊎◌, ℕ, zero, suc, ◌+◌, ◌-◌, ◌<◌, ◌≤◌, ◌&&◌, Bool, true, false, cond, List, [], ◌∷◌, ◌++◌, codes, length, append_assoc, append-nil, Option, Some, None, Result, Ok, Err, refl, sym, ap, subst, ◌∙◌, arith, inl, inr}
-use Rattle.std.proofs.lemmas.Bool.{and_parts, and_from}
+use Rattle.std.proofs.Common.{◌≡◌, ℕ, zero, suc, ◌+◌, ◌-◌, ◌<◌, ◌≤◌, Bool, true, false, cond, List, [], ◌∷◌, ◌++◌, codes, append_assoc, append-nil, Option, Some, None, Result, Ok, Err, refl, sym, ap, subst, ◌∙◌, arith}
+use Rattle.std.proofs.lemmas.Bool.{and_parts}
 use Rattle.std.specs.List.{list_all}
 use Rattle.std.specs.Prelude.{unwrap_or}
 use Rattle.std.specs.Str.{bytes_eq}
@@ -8,15 +8,15 @@ use Rattle.astg_lex.specs.Lines.{line_ends}
 use Rattle.stg_net.specs.Names.{IsWellNamed}
 use Rattle.stg_net.specs.Net.{NetLists, IsNet}
 use Rattle.stg_steps.specs.declared.log.Log.{Log}
-use Rattle.stg_steps.specs.LogText.{Row, log_text}
-use Rattle.stg_steps.specs.Logs.{IsLogOf, BeginsLog, first_lines, IsBadLine}
+use Rattle.stg_steps.specs.LogText.{LogRow}
+use Rattle.stg_steps.specs.Logs.{BeginsLog, first_lines, IsBadLine}
 use Rattle.stg_steps.specs.inner.Reading.{pieces, trans_words, with_row, is_over, or_bad, log_after, log_in}
 use Rattle.stg_steps.proofs.FirstLines.{line_ends-none, line_ends-line, first_lines-zero, first_lines-line}
 use Rattle.stg_steps.proofs.Gaps.{lacks}
-use Rattle.stg_steps.proofs.Pieces.{parted, tailed, has_front, pieces_front, parted-pieces, pieces-more, lacks-pieces}
+use Rattle.stg_steps.proofs.Pieces.{parted, has_front, pieces_front, parted-pieces, pieces-more, lacks-pieces}
 use Rattle.stg_steps.proofs.ReadSteps.{not_over-more}
 use Rattle.stg_steps.proofs.ToldRows.{is_word}
-use Rattle.stg_steps.proofs.WholeLogs.{begun, CanBeLogged, nothing, nothing-logged, after_line, adds-line, err_ok, read_log}
+use Rattle.stg_steps.proofs.WholeLogs.{begun, CanBeLogged, nothing, nothing-logged, after_line, adds-line, read_log}
 
 err_same : {A B : Type 0} (a b : B) → ◌≡◌ {A = Result A B} (Err a) (Err b) → a ≡ b
 err_same a b e = cc
@@ -34,7 +34,7 @@ begins-whole n log can = (log, [], record { records = can.records; steps = can.s
 
 module _ (n : NetLists) (net : IsNet n) where
   -- The line, counted from the first piece's number on. Those before it begin a log, and where it is whole, any text that begins with it is refused there too.
-  record Refused (number : ℕ) (log : Log) (ps : Row) (line : ℕ) : Type 0 where
+  record Refused (number : ℕ) (log : Log) (ps : LogRow) (line : ℕ) : Type 0 where
     behind : ℕ
     counted : line ≡ number + behind
     within : behind ≤ line_ends (parted 10 ps)
@@ -56,7 +56,7 @@ module _ (n : NetLists) (net : IsNet n) where
         always = λ below more. absurd (omega (arith, below, none));
       }
 
-  module _ (number : ℕ) (log : Log) (w next : List ℕ) (tail : Row) (line : ℕ) (lack : lacks 10 w ≡ true) (lack_next : lacks 10 next ≡ true) (can : CanBeLogged n log) where
+  module _ (number : ℕ) (log : Log) (w next : List ℕ) (tail : LogRow) (line : ℕ) (lack : lacks 10 w ≡ true) (lack_next : lacks 10 next ≡ true) (can : CanBeLogged n log) where
     abbrev rest : List ℕ
     rest = parted 10 (next ∷ tail)
 
@@ -91,7 +91,7 @@ module _ (n : NetLists) (net : IsNet n) where
     }
 
     -- something stands behind the last line
-    behind_whole : (tail : Row) → 0 < line_ends (parted 10 (next ∷ tail)) → (more : List ℕ) → is_over (pieces 10 (first_lines 1 (parted 10 (next ∷ tail)) ++ more)) ≡ false
+    behind_whole : (tail : LogRow) → 0 < line_ends (parted 10 (next ∷ tail)) → (more : List ℕ) → is_over (pieces 10 (first_lines 1 (parted 10 (next ∷ tail)) ++ more)) ≡ false
     behind_whole [] some more = absurd (omega (arith, some, ap line_ends (append-nil next) ∙ line_ends-none next lack_next))
     behind_whole (v ∷ vs) some more =
         let after = parted 10 (v ∷ vs) in
@@ -100,7 +100,7 @@ module _ (n : NetLists) (net : IsNet n) where
         ∙ ap is_over (pieces-more 10 next more lack_next)
         ∙ two next (pieces 10 more) (pieces_front 10 more)
       where
-        two : (x : List ℕ) (ps : Row) → has_front ps ≡ true → is_over (x ∷ ps) ≡ false
+        two : (x : List ℕ) (ps : LogRow) → has_front ps ≡ true → is_over (x ∷ ps) ≡ false
         two [] ps h = not_over-more ps h
         two (b ∷ bs) ps h = refl
 
@@ -134,7 +134,7 @@ module _ (n : NetLists) (net : IsNet n) where
               ∙ later.always (omega (arith, below, ends_one)) more;
         }
 
-  refused : (ps : Row) (number : ℕ) (log : Log) (line : ℕ) → has_front ps ≡ true → list_all (lacks 10) ps ≡ true → CanBeLogged n log → log_after n number log ps ≡ Err line → Refused number log ps line
+  refused : (ps : LogRow) (number : ℕ) (log : Log) (line : ℕ) → has_front ps ≡ true → list_all (lacks 10) ps ≡ true → CanBeLogged n log → log_after n number log ps ≡ Err line → Refused number log ps line
   refused [] number log line front lack can e = absurd (front_none front)
     where
       front_none : has_front [] ≡ true → ⊥

@@ -17,8 +17,8 @@ use Rattle.stg_net.specs.declared.trans.Edge.{Edge}
 use Rattle.stg_net.specs.declared.trans.Edge.TheVariants.{Rise, Fall, Toggle}
 use Rattle.stg_net.specs.declared.trans.TransName.{TransName}
 use Rattle.astg_lex.proofs.ListLemmas.{all-append}
-use Rattle.stg_steps.specs.LogText.{word_of}
-use Rattle.stg_steps.specs.inner.Reading.{value_after}
+use Rattle.stg_steps.specs.LogText.{word_at}
+use Rattle.stg_steps.specs.inner.Reading.{value_behind}
 
 -- no byte is c
 abbrev pub lacks : ℕ → List ℕ → Bool
@@ -72,8 +72,8 @@ name-bytes (c ∷ cs) h =
     and_from (is_in_name c) (list_all is_in_name cs) (begins-in_name c q.0) p.1
 
 -- the model of numerals by which std's lemmas speak
-pub own : IsNumeralModel (λ ds. list_all is_digit ds ≡ true) (value_after 0)
-own = numerals_by_fold _ (search rules) value_after (search rules)
+pub own : IsNumeralModel (λ ds. list_all is_digit ds ≡ true) (value_behind 0)
+own = numerals_by_fold _ (search rules) value_behind (search rules)
 
 module _ (c : ℕ) (gap : IsGap c) where
   -- words of bytes of names, and numbers
@@ -105,7 +105,7 @@ abbrev pub spelled : NetLists → TransName → List ℕ
 spelled n t = (signal_at n.signals t.signal).name ++ sign_of t.edge ∷ index_text t.index
 
 module _ (n : NetLists) (net : IsNet n) (named : IsWellNamed n) where
-  pub word-spelled : (t : ℕ) → t < length n.trans → word_of n t ≡ spelled n (trans_at n.trans t)
+  pub word-spelled : (t : ℕ) → t < length n.trans → word_at n t ≡ spelled n (trans_at n.trans t)
   word-spelled t h =
       let name = trans_at n.trans t in
       ap (λ o. option_map_or (words.word_of n.signals) o []) (slice_get-get_or n.trans t no_trans h)
@@ -115,7 +115,7 @@ module _ (n : NetLists) (net : IsNet n) (named : IsWellNamed n) where
   pub signal-bytes : (s : ℕ) → s < length n.signals → list_all is_in_name (signal_at n.signals s).name ≡ true
   signal-bytes s h = name-bytes (signal_at n.signals s).name (named.names s no_signal h)
 
-  pub lacks-word : (c : ℕ) → IsGap c → (t : ℕ) → t < length n.trans → lacks c (word_of n t) ≡ true
+  pub lacks-word : (c : ℕ) → IsGap c → (t : ℕ) → t < length n.trans → lacks c (word_at n t) ≡ true
   lacks-word c gap t h =
       let name = trans_at n.trans t in
       ap (lacks c) (word-spelled t h)

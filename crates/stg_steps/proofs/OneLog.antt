@@ -1,13 +1,13 @@
 -- Each text is that of one log or has one bad line, and not both.
-use Rattle.std.proofs.Common.{◌≡◌, ◌⊎◌, ℕ, ◌+◌, ◌-◌, ◌<◌, ◌≤◌, List, ◌++◌, append_assoc, Result, Ok, Err, IfOk, IfErr, refl, sym, ap, subst, ◌∙◌, arith, inl, inr}
+use Rattle.std.proofs.Common.{◌≡◌, ◌⊎◌, ℕ, ◌-◌, ◌<◌, ◌≤◌, List, ◌++◌, append_assoc, Result, Ok, Err, IfOk, IfErr, refl, sym, ap, subst, ◌∙◌, arith, inl, inr}
 use Rattle.std.proofs.lemmas.Bool.{cases_order}
 use Rattle.stg_net.specs.Names.{IsWellNamed}
 use Rattle.stg_net.specs.Net.{NetLists, IsNet}
 use Rattle.stg_steps.specs.declared.log.Log.{Log}
 use Rattle.stg_steps.specs.declared.log.StepError.{StepError}
 use Rattle.stg_steps.specs.declared.log.StepError.TheVariants.{BadLine, NoMemory}
-use Rattle.stg_steps.specs.Logs.{IsLogOf, BeginsLog, first_lines, IsBadLine, IsFaultOf, IsRead, IsRefused}
-use Rattle.stg_steps.specs.Laws.{LogIsOne, BadLineHasNoLog, BadLineIsOne, TextIsTold}
+use Rattle.stg_steps.specs.Logs.{IsLogOf, BeginsLog, first_lines, IsBadLine, IsFaultOf, IsRead, IsLineTold}
+use Rattle.stg_steps.specs.Laws.{LogIsOne, BadLineIsOne, TextIsTold}
 use Rattle.stg_steps.specs.inner.Reading.{log_in}
 use Rattle.stg_steps.specs.inner.Taking.{IsErrorOf}
 use Rattle.stg_steps.proofs.BadLines.{refused_line}
@@ -58,7 +58,7 @@ module _ (n : NetLists) (text : List ℕ) (net : IsNet n) (named : IsWellNamed n
   is_no_fault log (BadLine line) is h = (refused_line n net text line named h).no_log log is
   is_no_fault log NoMemory is h = tt
 
-  is_refused : (line : ℕ) (e : StepError) → IsBadLine n text line → IsErrorOf e (log_in n text) → IsRefused line (Err e)
+  is_refused : (line : ℕ) (e : StepError) → IsBadLine n text line → IsErrorOf e (log_in n text) → IsLineTold line (Err e)
   is_refused line (BadLine told) bad h = bad_line_is_one n text told line (refused_line n net text told named h) bad
   is_refused line NoMemory bad h = tt
 
@@ -76,6 +76,6 @@ module _ (n : NetLists) (text : List ℕ) (net : IsNet n) (named : IsWellNamed n
     read_all (Ok found) h k log is = ok_same found log (sym h ∙ ap (λ j. log_in j text) same ∙ read_log n net named text log is)
     read_all (Err e) h k log is = is_no_fault log e is (subst (λ j. IsErrorOf e (log_in j text)) same k)
 
-    pub refused_all : (r : Result Log StepError) → IfOk r (λ log. log_in m text ≡ Ok log) → IfErr r (λ e. IsErrorOf e (log_in m text)) → (line : ℕ) → IsBadLine n text line → IsRefused line r
+    pub refused_all : (r : Result Log StepError) → IfOk r (λ log. log_in m text ≡ Ok log) → IfErr r (λ e. IsErrorOf e (log_in m text)) → (line : ℕ) → IsBadLine n text line → IsLineTold line r
     refused_all (Ok found) h k line bad = bad.no_log found (told_log n net text found (ap (λ j. log_in j text) (sym same) ∙ h))
     refused_all (Err e) h k line bad = is_refused line e bad (subst (λ j. IsErrorOf e (log_in j text)) same k)

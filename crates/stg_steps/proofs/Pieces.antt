@@ -1,10 +1,10 @@
 -- The first piece of bytes, and those after it.
-use Rattle.std.proofs.Common.{◌≡◌, ◌<◌, ◌+◌, ◌==◌, ℕ, zero, suc, Bool, true, false, cond, List, [], ◌∷◌, ◌++◌, ◌≤◌, not, length, take, drop, take_all, append_assoc, append-nil, refl, sym, ap, ◌∙◌, arith, inl, inr}
+use Rattle.std.proofs.Common.{◌≡◌, ◌<◌, ◌+◌, ◌==◌, ℕ, suc, Bool, true, false, cond, List, [], ◌∷◌, ◌++◌, ◌≤◌, not, length, take, drop, take_all, append_assoc, append-nil, refl, sym, ap, ◌∙◌, arith, inl, inr}
 use Rattle.std.proofs.lemmas.Bool.{cases_Bool, false≢true, and_parts, and_from, not-true, eqb-true, eq-eqb}
 use Rattle.std.specs.List.{list_all}
 use Rattle.astg_lex.proofs.ListLemmas.{drop-none, all-append}
 use Rattle.stg_steps.specs.inner.Reading.{pieces, piece_length, with_front}
-use Rattle.stg_steps.specs.LogText.{Row, spaced, line_of}
+use Rattle.stg_steps.specs.LogText.{LogRow, spaced, line_of}
 use Rattle.stg_steps.proofs.Gaps.{lacks}
 
 stops : (c b : ℕ) (bs : List ℕ) → (b == c) ≡ true → pieces c (b ∷ bs) ≡ [] ∷ pieces c bs
@@ -41,34 +41,34 @@ pieces-first c bs k e lt =
     first c bs (omega (arith, e, lt)) ∙ ap (λ n. take n bs ∷ pieces c (drop (suc n) bs)) (sym e) ∙ ap (λ n. take k bs ∷ pieces c (drop n bs)) next
 
 -- the last word of a line
-pub split_last : (c : ℕ) (ws more whole : Row) (rest : List ℕ) (k : ℕ) → ws ++ pieces c rest ≡ whole → k ≡ piece_length c rest → k ≤ length rest → length rest ≤ k → more ≡ ws ++ take k rest ∷ [] → more ≡ whole
+pub split_last : (c : ℕ) (ws more whole : LogRow) (rest : List ℕ) (k : ℕ) → ws ++ pieces c rest ≡ whole → k ≡ piece_length c rest → k ≤ length rest → length rest ≤ k → more ≡ ws ++ take k rest ∷ [] → more ≡ whole
 split_last c ws more whole rest k e k_is most least more_is =
     let all : take k rest ≡ rest = take_all k rest least in
     let last : pieces c rest ≡ rest ∷ [] = pieces-last c rest (omega (arith, k_is, most, least)) in
     more_is ∙ ap (λ w. ws ++ w ∷ []) all ∙ ap (λ p. ws ++ p) (sym last) ∙ e
 
 -- a word that isn't the last one
-pub split_next : (c : ℕ) (ws more whole : Row) (rest next : List ℕ) (k : ℕ) → ws ++ pieces c rest ≡ whole → k ≡ piece_length c rest → k < length rest → next ≡ drop (k + 1) rest → more ≡ ws ++ take k rest ∷ [] → more ++ pieces c next ≡ whole
+pub split_next : (c : ℕ) (ws more whole : LogRow) (rest next : List ℕ) (k : ℕ) → ws ++ pieces c rest ≡ whole → k ≡ piece_length c rest → k < length rest → next ≡ drop (k + 1) rest → more ≡ ws ++ take k rest ∷ [] → more ++ pieces c next ≡ whole
 split_next c ws more whole rest next k e k_is below next_is more_is =
     ap (λ m. m ++ pieces c next) more_is ∙ append_assoc ws (take k rest ∷ []) (pieces c next)
     ∙ ap (λ x. ws ++ (take k rest ∷ pieces c x)) next_is ∙ ap (λ p. ws ++ p) (sym (pieces-first c rest k k_is below)) ∙ e
 
 -- pieces behind others, each after the byte c
-abbrev pub tailed : ℕ → Row → List ℕ
+abbrev pub tailed : ℕ → LogRow → List ℕ
 tailed c [] = []
 tailed c (w ∷ ws) = c ∷ w ++ tailed c ws
 
 -- pieces with the byte c between each two
-abbrev pub parted : ℕ → Row → List ℕ
+abbrev pub parted : ℕ → LogRow → List ℕ
 parted c [] = []
 parted c (w ∷ ws) = w ++ tailed c ws
 
 -- a piece stands in front
-abbrev pub has_front : Row → Bool
+abbrev pub has_front : LogRow → Bool
 has_front [] = false
 has_front (w ∷ ws) = true
 
-with_front-front : (b : ℕ) (ws : Row) → has_front (with_front b ws) ≡ true
+with_front-front : (b : ℕ) (ws : LogRow) → has_front (with_front b ws) ≡ true
 with_front-front b [] = refl
 with_front-front b (w ∷ ws) = refl
 
@@ -79,11 +79,11 @@ pieces_front c (b ∷ bs) = elim (cases_Bool (b == c)) [
   | inr k ↦ ap has_front (goes c b bs k) ∙ with_front-front b (pieces c bs)
 ]
 
-tailed-front : (c : ℕ) (ws : Row) → has_front ws ≡ true → tailed c ws ≡ c ∷ parted c ws
+tailed-front : (c : ℕ) (ws : LogRow) → has_front ws ≡ true → tailed c ws ≡ c ∷ parted c ws
 tailed-front c [] h = absurd (false≢true h)
 tailed-front c (w ∷ ws) h = refl
 
-parted-with_front : (c b : ℕ) (ws : Row) → parted c (with_front b ws) ≡ b ∷ parted c ws
+parted-with_front : (c b : ℕ) (ws : LogRow) → parted c (with_front b ws) ≡ b ∷ parted c ws
 parted-with_front c b [] = refl
 parted-with_front c b (w ∷ ws) = refl
 
@@ -96,7 +96,7 @@ parted-pieces c (b ∷ bs) = elim (cases_Bool (b == c)) [
 ]
 
 -- no piece has the byte
-lacks-with_front : (c b : ℕ) (ws : Row) → (b == c) ≡ false → list_all (lacks c) ws ≡ true → list_all (lacks c) (with_front b ws) ≡ true
+lacks-with_front : (c b : ℕ) (ws : LogRow) → (b == c) ≡ false → list_all (lacks c) ws ≡ true → list_all (lacks c) (with_front b ws) ≡ true
 lacks-with_front c b [] k h = and_from (lacks c (b ∷ [])) true (and_from (not (b == c)) true (ap not k) refl) refl
 lacks-with_front c b (w ∷ ws) k h =
     let p = and_parts (lacks c w) (list_all (lacks c) ws) h in
@@ -123,29 +123,29 @@ pieces-alone c (b ∷ bs) h =
     goes c b bs (not-true (b == c) p.0) ∙ ap (with_front b) (pieces-alone c bs p.1)
 
 -- pieces without the byte are those of what they make up
-pub pieces-parted : (c : ℕ) (w : List ℕ) (ws : Row) → list_all (lacks c) (w ∷ ws) ≡ true → pieces c (parted c (w ∷ ws)) ≡ w ∷ ws
+pub pieces-parted : (c : ℕ) (w : List ℕ) (ws : LogRow) → list_all (lacks c) (w ∷ ws) ≡ true → pieces c (parted c (w ∷ ws)) ≡ w ∷ ws
 pieces-parted c w [] h = ap (pieces c) (append-nil w) ∙ pieces-alone c w (and_parts (lacks c w) true h).0
 pieces-parted c w (v ∷ ws) h =
     let p = and_parts (lacks c w) (list_all (lacks c) (v ∷ ws)) h in
     pieces-more c w (parted c (v ∷ ws)) p.0 ∙ ap (λ rest. w ∷ rest) (pieces-parted c v ws p.1)
 
 -- what is made up of pieces without a byte has it only where it stands between them
-lacks-tailed : (c d : ℕ) (ws : Row) → (c == d) ≡ false → list_all (lacks d) ws ≡ true → lacks d (tailed c ws) ≡ true
+lacks-tailed : (c d : ℕ) (ws : LogRow) → (c == d) ≡ false → list_all (lacks d) ws ≡ true → lacks d (tailed c ws) ≡ true
 lacks-tailed c d [] k h = refl
 lacks-tailed c d (w ∷ ws) k h =
     let p = and_parts (lacks d w) (list_all (lacks d) ws) h in
     and_from (not (c == d)) (lacks d (w ++ tailed c ws)) (ap not k) (all-append (λ b. not (b == d)) w (tailed c ws) p.0 (lacks-tailed c d ws k p.1))
 
-pub lacks-parted : (c d : ℕ) (ws : Row) → (c == d) ≡ false → list_all (lacks d) ws ≡ true → lacks d (parted c ws) ≡ true
+pub lacks-parted : (c d : ℕ) (ws : LogRow) → (c == d) ≡ false → list_all (lacks d) ws ≡ true → lacks d (parted c ws) ≡ true
 lacks-parted c d [] k h = refl
 lacks-parted c d (w ∷ ws) k h =
     let p = and_parts (lacks d w) (list_all (lacks d) ws) h in
     all-append (λ b. not (b == d)) w (tailed c ws) p.0 (lacks-tailed c d ws k p.1)
 
-spaced-tailed : (ws : Row) → spaced ws ≡ tailed 32 ws
+spaced-tailed : (ws : LogRow) → spaced ws ≡ tailed 32 ws
 spaced-tailed [] = refl
 spaced-tailed (w ∷ ws) = ap (λ rest. 32 ∷ w ++ rest) (spaced-tailed ws)
 
 -- a line is its words with a space between each two, and LF
-pub line-parted : (w : List ℕ) (ws : Row) → line_of (w ∷ ws) ≡ parted 32 (w ∷ ws) ++ 10 ∷ []
+pub line-parted : (w : List ℕ) (ws : LogRow) → line_of (w ∷ ws) ≡ parted 32 (w ∷ ws) ++ 10 ∷ []
 line-parted w ws = ap (λ rest. w ++ rest ++ 10 ∷ []) (spaced-tailed ws)

@@ -7,18 +7,18 @@ use Rattle.astg_lex.specs.Lines.{line_ends}
 use Rattle.astg_lex.proofs.ListLemmas.{drop-none}
 use Rattle.stg_net.specs.Net.{NetLists}
 use Rattle.stg_steps.specs.declared.log.Log.{Log}
-use Rattle.stg_steps.specs.LogText.{Row, word_of}
+use Rattle.stg_steps.specs.LogText.{LogRow, word_at}
 use Rattle.stg_net.specs.Ordered.{listed_below}
 use Rattle.stg_steps.specs.inner.Reading.{pieces, piece_length, with_front, trans_words, with_row, is_over, or_bad, log_after, log_in}
-use Rattle.stg_steps.specs.inner.Taking.{Takes}
+use Rattle.stg_steps.specs.inner.Taking.{TakesLine}
 use Rattle.stg_steps.proofs.FirstLines.{line_ends-more, line_ends-same}
 use Rattle.stg_steps.proofs.Pieces.{has_front, pieces_front, pieces-last, pieces-first}
 
-not_over-front : (b : ℕ) (ws : Row) → is_over (with_front b ws) ≡ false
+not_over-front : (b : ℕ) (ws : LogRow) → is_over (with_front b ws) ≡ false
 not_over-front b [] = refl
 not_over-front b (w ∷ ws) = refl
 
-pub not_over-more : (ws : Row) → has_front ws ≡ true → is_over ([] ∷ ws) ≡ false
+pub not_over-more : (ws : LogRow) → has_front ws ≡ true → is_over ([] ∷ ws) ≡ false
 not_over-more [] h = absurd (false≢true h)
 not_over-more (w ∷ ws) h = refl
 
@@ -61,10 +61,10 @@ module _ (n : NetLists) (text : List ℕ) (number : ℕ) (log : Log) (rest : Lis
     abbrev told : Option Log
     told = with_row n (trans_words n) log (pieces 32 line)
 
-    abbrev outcome : Row → Result Log ℕ
+    abbrev outcome : LogRow → Result Log ℕ
     outcome p = cond (bytes_eq line (codes "end")) (cond (is_over p) (Ok log) (Err (number + 1))) (or_bad number told (log_after n (number + 1) (unwrap_or told log) p))
 
-    step : (p : Row) → has_front p ≡ true → log_after n number log (line ∷ p) ≡ outcome p
+    step : (p : LogRow) → has_front p ≡ true → log_after n number log (line ∷ p) ≡ outcome p
     step [] h = absurd (false≢true h)
     step (w ∷ p) h = refl
 
@@ -94,17 +94,17 @@ pub none_left : (bs : List ℕ) → length bs ≡ 0 → bs ≡ []
 none_left [] e = refl
 none_left (b ∷ bs) e = absurd (omega (arith, e))
 
-pub takes_none : (taken : Bool) (o : Option Log) (new : Log) → Takes taken o new → taken ≡ false → o ≡ None
+pub takes_none : (taken : Bool) (o : Option Log) (new : Log) → TakesLine taken o new → taken ≡ false → o ≡ None
 takes_none true o new h e = absurd (false≢true (sym e))
 takes_none false o new h e = h
 
-pub takes_some : (taken : Bool) (o : Option Log) (new : Log) → Takes taken o new → taken ≡ true → o ≡ Some new
+pub takes_some : (taken : Bool) (o : Option Log) (new : Log) → TakesLine taken o new → taken ≡ true → o ≡ Some new
 takes_some true o new h e = h
 takes_some false o new h e = absurd (false≢true e)
 
 -- as many words as transitions
 pub length-words : (n : NetLists) → length (trans_words n) ≡ length n.trans
-length-words n = singles (word_of n) (length n.trans)
+length-words n = singles (word_at n) (length n.trans)
   where
     singles : (f : ℕ → List ℕ) (k : ℕ) → length (listed_below (λ t. f t ∷ []) k) ≡ k
     singles f zero = refl

@@ -1,8 +1,6 @@
 -- A row that is read is the row of what it tells, and that can be logged.
-use Rattle.std.proofs.Common.{◌≡◌, ◌⊎◌, ℕ, ◌<◌, Bool, true, false, cond, List, [], ◌∷◌, ◌++◌, codes, length, Option, Some, None, option_map, refl, sym, ap, subst, ◌∙◌, arith, inl, inr}
-use Rattle.std.proofs.lemmas.Bool.{cases_Bool}
+use Rattle.std.proofs.Common.{◌≡◌, ◌⊎◌, ℕ, Bool, true, false, cond, List, [], ◌∷◌, codes, length, Option, Some, None, option_map, refl, subst, inl, inr}
 use Rattle.std.proofs.lemmas.Slice.Eq.{bytes_eq-Decides}
-use Rattle.std.specs.Prelude.{decimal}
 use Rattle.std.specs.Str.{bytes_eq}
 use Rattle.stg_net.specs.Net.{NetLists, IsNet, signal_at, trans_at}
 use Rattle.stg_contract.specs.declared.verdict.Verdict.{Verdict}
@@ -17,8 +15,8 @@ use Rattle.stg_derive.specs.declared.step.Secure.TheVariants as secure
 use Rattle.stg_derive.specs.declared.step.Step.{Step}
 use Rattle.stg_derive.specs.declared.step.Step.TheVariants.{Contract, DropPlace, DropDummy}
 use Rattle.stg_derive.specs.declared.part.Restore.{Restore}
-use Rattle.stg_steps.specs.LogText.{Row, word_of, verdict_words, restore_words, secure_word, place_rule_words, dummy_rule_words, contract_words, drop_place_words, drop_dummy_words, step_words}
-use Rattle.stg_steps.specs.inner.Reading.{trans_words, place_in, number_in, lone_verdict, places_in, clash_of, verdict_in, restore_of, restore_in, secure_in, contract_of, contract_in, same_place_of, place_rule_in, drop_place_of, same_dummy_of, dummy_rule_in, drop_dummy_of, drop_in, step_in}
+use Rattle.stg_steps.specs.LogText.{LogRow, verdict_words, restore_words, secure_word, place_rule_words, dummy_rule_words, step_words}
+use Rattle.stg_steps.specs.inner.Reading.{trans_words, place_in, number_in, lone_verdict, places_verdict, clash_of, verdict_in, restore_of, restore_in, secure_in, contract_of, contract_in, same_place_of, place_rule_in, drop_place_of, same_dummy_of, dummy_rule_in, drop_dummy_of, drop_in, step_in}
 use Rattle.stg_steps.proofs.Gaps.{no_trans}
 use Rattle.stg_steps.proofs.TransPlaces.{place_in-told}
 use Rattle.stg_steps.proofs.WrittenNumbers.{number_in-told}
@@ -44,7 +42,7 @@ module _ (n : NetLists) where
   abbrev count : ℕ
   count = length n.trans
 
-  abbrev ToldVerdict : Row → Verdict → Type 0
+  abbrev ToldVerdict : LogRow → Verdict → Type 0
   ToldVerdict row v = (row ≡ verdict_words n v) × IsLoggableVerdict count v
 
   told-lone : (w : List ℕ) (v : Verdict) → lone_verdict w ≡ Some v → ToldVerdict (w ∷ []) v
@@ -62,7 +60,7 @@ module _ (n : NetLists) where
     ]
   ]
 
-  told-places : (w k : List ℕ) (v : Verdict) → w ≡ codes "places" → places_in k ≡ Some v → ToldVerdict (w ∷ k ∷ []) v
+  told-places : (w k : List ℕ) (v : Verdict) → w ≡ codes "places" → places_verdict k ≡ Some v → ToldVerdict (w ∷ k ∷ []) v
   told-places w k v is e = by (number_in k) refl e
     where
       by : (o : Option ℕ) → number_in k ≡ o → option_map (λ p. verdict.Places p) o ≡ Some v → ToldVerdict (w ∷ k ∷ []) v
@@ -82,10 +80,10 @@ module _ (n : NetLists) where
           let second = place_in-told n u b too in
           same_some (ToldVerdict (w ∷ t ∷ u ∷ [])) (verdict.Clash a b) v h ((λ j. is j ∷ first.1 j ∷ second.1 j ∷ []), (first.0, second.0))
 
-  told-verdict : (row : Row) (v : Verdict) → verdict_in (trans_words n) row ≡ Some v → ToldVerdict row v
+  told-verdict : (row : LogRow) (v : Verdict) → verdict_in (trans_words n) row ≡ Some v → ToldVerdict row v
   told-verdict [] v e = absurd (never v e)
   told-verdict (w ∷ []) v e = told-lone w v e
-  told-verdict (w ∷ k ∷ []) v e = elim (by_test (bytes_eq w (codes "places")) (places_in k) None v e) [
+  told-verdict (w ∷ k ∷ []) v e = elim (by_test (bytes_eq w (codes "places")) (places_verdict k) None v e) [
     | inl a ↦ told-places w k v (is_word w (codes "places") a.0) a.1
     | inr b ↦ absurd (never v b.1)
   ]
@@ -96,10 +94,10 @@ module _ (n : NetLists) where
   told-verdict (w ∷ t ∷ u ∷ x ∷ row) v e = absurd (never v e)
 
   -- a record
-  abbrev pub ToldRecord : Row → Restore → Type 0
+  abbrev pub ToldRecord : LogRow → Restore → Type 0
   ToldRecord row r = (row ≡ restore_words n r) × IsLoggableRecord n r
 
-  pub told-record : IsNet n → (w : List ℕ) (row : Row) (r : Restore) → w ≡ codes "restore" → restore_in n (trans_words n) row ≡ Some r → ToldRecord (w ∷ row) r
+  pub told-record : IsNet n → (w : List ℕ) (row : LogRow) (r : Restore) → w ≡ codes "restore" → restore_in n (trans_words n) row ≡ Some r → ToldRecord (w ∷ row) r
   told-record net w [] r is e = absurd (never r e)
   told-record net w (name ∷ []) r is e = absurd (never r e)
   told-record net w (name ∷ t ∷ rest) r is e = by (place_in (trans_words n) t) (verdict_in (trans_words n) rest) refl refl e
@@ -120,7 +118,7 @@ module _ (n : NetLists) where
           ]
 
   -- a step
-  abbrev pub ToldStep : Row → Step → Type 0
+  abbrev pub ToldStep : LogRow → Step → Type 0
   ToldStep row s = (row ≡ step_words n s) × IsLoggableStep count s
 
   told-secure : (w : List ℕ) (s : Secure) → secure_in w ≡ Some s → w ≡ secure_word s
@@ -132,7 +130,7 @@ module _ (n : NetLists) where
     ]
   ]
 
-  told-contract : (w : List ℕ) (row : Row) (s : Step) → w ≡ codes "contract" → contract_in (trans_words n) row ≡ Some s → ToldStep (w ∷ row) s
+  told-contract : (w : List ℕ) (row : LogRow) (s : Step) → w ≡ codes "contract" → contract_in (trans_words n) row ≡ Some s → ToldStep (w ∷ row) s
   told-contract w [] s is e = absurd (never s e)
   told-contract w (t ∷ []) s is e = absurd (never s e)
   told-contract w (t ∷ kind ∷ []) s is e = absurd (never s e)
@@ -153,7 +151,7 @@ module _ (n : NetLists) where
           ((λ j. is j ∷ trans.1 j ∷ told-secure kind b at_kind j ∷ places j ∷ number.1 j ∷ []), (trans.0, number.0))
   told-contract w (t ∷ kind ∷ p ∷ k ∷ x ∷ row) s is e = absurd (never s e)
 
-  abbrev ToldPlaceRule : Row → PlaceRule → Type 0
+  abbrev ToldPlaceRule : LogRow → PlaceRule → Type 0
   ToldPlaceRule row rule = (row ≡ place_rule_words rule) × IsLoggablePlaceRule rule
 
   told-same_place : (w q : List ℕ) (rule : PlaceRule) → w ≡ codes "same" → same_place_of (number_in q) ≡ Some rule → ToldPlaceRule (w ∷ q ∷ []) rule
@@ -165,7 +163,7 @@ module _ (n : NetLists) where
           let told = number_in-told q a at in
           same_some (ToldPlaceRule (w ∷ q ∷ [])) (place_rule.Same a) rule h ((λ j. is j ∷ told.1 j ∷ []), told.0)
 
-  told-place_rule : (row : Row) (rule : PlaceRule) → place_rule_in row ≡ Some rule → ToldPlaceRule row rule
+  told-place_rule : (row : LogRow) (rule : PlaceRule) → place_rule_in row ≡ Some rule → ToldPlaceRule row rule
   told-place_rule [] rule e = absurd (never rule e)
   told-place_rule (w ∷ []) rule e = elim (by_test (bytes_eq w (codes "loop")) (Some place_rule.Loop) _ rule e) [
     | inl a ↦ same_some (ToldPlaceRule (w ∷ [])) place_rule.Loop rule a.1 ((λ j. is_word w (codes "loop") a.0 j ∷ []), tt)
@@ -180,7 +178,7 @@ module _ (n : NetLists) where
   ]
   told-place_rule (w ∷ q ∷ x ∷ row) rule e = absurd (never rule e)
 
-  abbrev ToldDummyRule : Row → DummyRule → Type 0
+  abbrev ToldDummyRule : LogRow → DummyRule → Type 0
   ToldDummyRule row rule = (row ≡ dummy_rule_words n rule) × IsLoggableDummyRule count rule
 
   told-same_dummy : (w u : List ℕ) (rule : DummyRule) → w ≡ codes "same" → same_dummy_of (place_in (trans_words n) u) ≡ Some rule → ToldDummyRule (w ∷ u ∷ []) rule
@@ -192,7 +190,7 @@ module _ (n : NetLists) where
           let told = place_in-told n u a at in
           same_some (ToldDummyRule (w ∷ u ∷ [])) (dummy_rule.Same a) rule h ((λ j. is j ∷ told.1 j ∷ []), told.0)
 
-  told-dummy_rule : (row : Row) (rule : DummyRule) → dummy_rule_in (trans_words n) row ≡ Some rule → ToldDummyRule row rule
+  told-dummy_rule : (row : LogRow) (rule : DummyRule) → dummy_rule_in (trans_words n) row ≡ Some rule → ToldDummyRule row rule
   told-dummy_rule [] rule e = absurd (never rule e)
   told-dummy_rule (w ∷ []) rule e = elim (by_test (bytes_eq w (codes "loop")) (Some dummy_rule.Loop) None rule e) [
     | inl a ↦ same_some (ToldDummyRule (w ∷ [])) dummy_rule.Loop rule a.1 ((λ j. is_word w (codes "loop") a.0 j ∷ []), tt)
@@ -204,7 +202,7 @@ module _ (n : NetLists) where
   ]
   told-dummy_rule (w ∷ u ∷ x ∷ row) rule e = absurd (never rule e)
 
-  told-drop_place : (w what which : List ℕ) (row : Row) (s : Step) → w ≡ codes "drop" → what ≡ codes "place" → drop_place_of (number_in which) (place_rule_in row) ≡ Some s → ToldStep (w ∷ what ∷ which ∷ row) s
+  told-drop_place : (w what which : List ℕ) (row : LogRow) (s : Step) → w ≡ codes "drop" → what ≡ codes "place" → drop_place_of (number_in which) (place_rule_in row) ≡ Some s → ToldStep (w ∷ what ∷ which ∷ row) s
   told-drop_place w what which row s is kind e = by (number_in which) (place_rule_in row) refl refl e
     where
       by : (o : Option ℕ) (p : Option PlaceRule) → number_in which ≡ o → place_rule_in row ≡ p → drop_place_of o p ≡ Some s → ToldStep (w ∷ what ∷ which ∷ row) s
@@ -216,7 +214,7 @@ module _ (n : NetLists) where
           same_some (ToldStep (w ∷ what ∷ which ∷ row)) (DropPlace (record { place = a; rule = rule })) s h
           ((λ j. is j ∷ kind j ∷ number.1 j ∷ told.0 j), (number.0, told.1))
 
-  told-drop_dummy : (w what which : List ℕ) (row : Row) (s : Step) → w ≡ codes "drop" → what ≡ codes "dummy" → drop_dummy_of (place_in (trans_words n) which) (dummy_rule_in (trans_words n) row) ≡ Some s → ToldStep (w ∷ what ∷ which ∷ row) s
+  told-drop_dummy : (w what which : List ℕ) (row : LogRow) (s : Step) → w ≡ codes "drop" → what ≡ codes "dummy" → drop_dummy_of (place_in (trans_words n) which) (dummy_rule_in (trans_words n) row) ≡ Some s → ToldStep (w ∷ what ∷ which ∷ row) s
   told-drop_dummy w what which row s is kind e = by (place_in (trans_words n) which) (dummy_rule_in (trans_words n) row) refl refl e
     where
       by : (o : Option ℕ) (p : Option DummyRule) → place_in (trans_words n) which ≡ o → dummy_rule_in (trans_words n) row ≡ p → drop_dummy_of o p ≡ Some s → ToldStep (w ∷ what ∷ which ∷ row) s
@@ -228,7 +226,7 @@ module _ (n : NetLists) where
           same_some (ToldStep (w ∷ what ∷ which ∷ row)) (DropDummy (record { trans = a; rule = rule })) s h
           ((λ j. is j ∷ kind j ∷ trans.1 j ∷ told.0 j), (trans.0, told.1))
 
-  told-drop : (w : List ℕ) (row : Row) (s : Step) → w ≡ codes "drop" → drop_in (trans_words n) row ≡ Some s → ToldStep (w ∷ row) s
+  told-drop : (w : List ℕ) (row : LogRow) (s : Step) → w ≡ codes "drop" → drop_in (trans_words n) row ≡ Some s → ToldStep (w ∷ row) s
   told-drop w [] s is e = absurd (never s e)
   told-drop w (what ∷ []) s is e = absurd (never s e)
   told-drop w (what ∷ which ∷ row) s is e = elim (by_test (bytes_eq what (codes "place")) (drop_place_of (number_in which) (place_rule_in row)) _ s e) [
@@ -239,7 +237,7 @@ module _ (n : NetLists) where
     ]
   ]
 
-  pub told-step : (row : Row) (s : Step) → step_in (trans_words n) row ≡ Some s → ToldStep row s
+  pub told-step : (row : LogRow) (s : Step) → step_in (trans_words n) row ≡ Some s → ToldStep row s
   told-step [] s e = absurd (never s e)
   told-step (w ∷ row) s e = elim (by_test (bytes_eq w (codes "contract")) (contract_in (trans_words n) row) _ s e) [
     | inl a ↦ told-contract w row s (is_word w (codes "contract") a.0) a.1

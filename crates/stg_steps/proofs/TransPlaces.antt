@@ -1,6 +1,6 @@
 -- The words of transitions differ, so a word has one place.
-use Rattle.std.proofs.Common.{◌≡◌, ◌≢◌, ℕ, zero, suc, ◌+◌, ◌<◌, ◌≤◌, ◌==◌, Bool, true, false, cond, nat_lt, List, [], ◌∷◌, ◌++◌, length, get_or, length-append, position, Option, Some, None, refl, sym, ap, ◌∙◌, arith, inl, inr}
-use Rattle.std.proofs.lemmas.Bool.{cases_eq, cases_order, cases_Bool, lt-ltb, le-ltb, true≢false, and_parts, false_from_ne_true, eqb-true, eqb-false}
+use Rattle.std.proofs.Common.{◌≡◌, ℕ, zero, suc, ◌<◌, ◌==◌, Bool, true, false, cond, nat_lt, List, [], ◌∷◌, ◌++◌, length, get_or, length-append, position, Some, None, refl, sym, ap, ◌∙◌, arith, inl, inr}
+use Rattle.std.proofs.lemmas.Bool.{cases_eq, cases_order, cases_Bool, lt-ltb, le-ltb, true≢false, and_parts, false_from_ne_true, eqb-true}
 use Rattle.std.proofs.lemmas.Fmt.{decimal_injective}
 use Rattle.std.proofs.lemmas.List.{get_or_append_left, get_or_at}
 use Rattle.std.proofs.lemmas.List.Quantifiers.{position-Some}
@@ -15,10 +15,9 @@ use Rattle.stg_net.specs.Ordered.{listed_below}
 use Rattle.stg_net.specs.Words.{sign_of, index_text}
 use Rattle.stg_net.specs.declared.trans.Edge.{Edge}
 use Rattle.stg_net.specs.declared.trans.Edge.TheVariants.{Rise, Fall, Toggle}
-use Rattle.stg_net.specs.declared.trans.TransName.{TransName}
-use Rattle.stg_steps.specs.LogText.{word_of, Row}
+use Rattle.stg_steps.specs.LogText.{word_at}
 use Rattle.stg_steps.specs.inner.Reading.{place_in, trans_words}
-use Rattle.stg_steps.proofs.Gaps.{no_trans, no_signal, spelled, word-spelled, signal-bytes}
+use Rattle.stg_steps.proofs.Gaps.{no_trans, no_signal, word-spelled, signal-bytes}
 
 abbrev head_of : List ℕ → ℕ
 head_of [] = 0
@@ -110,7 +109,7 @@ module _ (n : NetLists) (net : IsNet n) (named : IsWellNamed n) where
     ]
   ]
 
-  trans_same : (t u : ℕ) → t < length n.trans → u < length n.trans → word_of n t ≡ word_of n u → trans_at n.trans t ≡ trans_at n.trans u
+  trans_same : (t u : ℕ) → t < length n.trans → u < length n.trans → word_at n t ≡ word_at n u → trans_at n.trans t ≡ trans_at n.trans u
   trans_same t u ht hu e =
       let a = trans_at n.trans t in
       let b = trans_at n.trans u in
@@ -125,7 +124,7 @@ module _ (n : NetLists) (net : IsNet n) (named : IsWellNamed n) where
       (λ j. record { signal = signal j; edge = edge j; index = index j })
 
   -- the words of two transitions differ
-  pub word_same : (t u : ℕ) → t < length n.trans → u < length n.trans → word_of n t ≡ word_of n u → t ≡ u
+  pub word_same : (t u : ℕ) → t < length n.trans → u < length n.trans → word_at n t ≡ word_at n u → t ≡ u
   word_same t u ht hu e = elim (cases_order t u) [
     | inl same ↦ same
     | inr other ↦ elim other [
@@ -134,21 +133,21 @@ module _ (n : NetLists) (net : IsNet n) (named : IsWellNamed n) where
     ]
   ]
 
-  other_word : (t u : ℕ) → t < length n.trans → u < t → bytes_eq (word_of n t) (word_of n u) ≡ false
-  other_word t u ht hu = false_from_ne_true (bytes_eq (word_of n t) (word_of n u)) (λ e. let same = word_same t u ht (omega (arith, hu, ht)) ((bytes_eq-Decides (word_of n t) (word_of n u)).0 e) in absurd (omega (arith, same, hu)))
+  other_word : (t u : ℕ) → t < length n.trans → u < t → bytes_eq (word_at n t) (word_at n u) ≡ false
+  other_word t u ht hu = false_from_ne_true (bytes_eq (word_at n t) (word_at n u)) (λ e. let same = word_same t u ht (omega (arith, hu, ht)) ((bytes_eq-Decides (word_at n t) (word_at n u)).0 e) in absurd (omega (arith, same, hu)))
 
   -- a transition's word stands at its number
-  pub place_in-word : (t : ℕ) → t < length n.trans → place_in (trans_words n) (word_of n t) ≡ Some t
-  place_in-word t h = position-listed (λ x. bytes_eq (word_of n t) x) (word_of n) (length n.trans) t h ((bytes_eq-Decides (word_of n t) (word_of n t)).1 refl) (λ j b. other_word t j h b)
+  pub place_in-word : (t : ℕ) → t < length n.trans → place_in (trans_words n) (word_at n t) ≡ Some t
+  place_in-word t h = position-listed (λ x. bytes_eq (word_at n t) x) (word_at n) (length n.trans) t h ((bytes_eq-Decides (word_at n t) (word_at n t)).1 refl) (λ j b. other_word t j h b)
 
   -- and is none of those before it
-  pub place_in-new : (t : ℕ) → t < length n.trans → place_in (listed_below (λ u. word_of n u ∷ []) t) (word_of n t) ≡ None
-  place_in-new t h = position-unlisted (λ x. bytes_eq (word_of n t) x) (word_of n) t (λ j b. other_word t j h b)
+  pub place_in-new : (t : ℕ) → t < length n.trans → place_in (listed_below (λ u. word_at n u ∷ []) t) (word_at n t) ≡ None
+  place_in-new t h = position-unlisted (λ x. bytes_eq (word_at n t) x) (word_at n) t (λ j b. other_word t j h b)
 
 -- a word that has a place is the word of the transition there
-pub place_in-told : (n : NetLists) (w : List ℕ) (t : ℕ) → place_in (trans_words n) w ≡ Some t → (t < length n.trans) × (w ≡ word_of n t)
+pub place_in-told : (n : NetLists) (w : List ℕ) (t : ℕ) → place_in (trans_words n) w ≡ Some t → (t < length n.trans) × (w ≡ word_at n t)
 place_in-told n w t e =
     let at = position-Some (λ x. bytes_eq w x) (trans_words n) t [] e in
-    let long = length-listed (word_of n) (length n.trans) in
+    let long = length-listed (word_at n) (length n.trans) in
     let there : t < length n.trans = omega (arith, at.0, long) in
-    (there, (bytes_eq-Decides w (get_or (trans_words n) t [])).0 at.1 ∙ get-listed (word_of n) (length n.trans) t [] there)
+    (there, (bytes_eq-Decides w (get_or (trans_words n) t [])).0 at.1 ∙ get-listed (word_at n) (length n.trans) t [] there)

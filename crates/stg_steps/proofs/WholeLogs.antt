@@ -1,9 +1,8 @@
 -- A log's text is read as this log, and a text that is read as a log is its text.
-use Rattle.std.proofs.Common.{◌≡◌, ◌⊎◌, ℕ, zero, suc, ◌+◌, ◌<◌, ◌≤◌, nat_le, Bool, true, false, cond, List, [], ◌∷◌, ◌++◌, codes, length, All, append_assoc, append-nil, Option, Some, None, Result, Ok, Err, refl, sym, ap, subst, ◌∙◌, arith, inl, inr}
-use Rattle.std.proofs.lemmas.Bool.{cases_Bool, false≢true, leb-false}
+use Rattle.std.proofs.Common.{◌≡◌, ℕ, ◌+◌, ◌<◌, nat_le, Bool, true, false, cond, List, [], ◌∷◌, ◌++◌, codes, length, All, append_assoc, append-nil, Option, Some, None, Result, Ok, Err, refl, sym, ap, subst, ◌∙◌, arith, inl, inr}
+use Rattle.std.proofs.lemmas.Bool.{false≢true, leb-false}
 use Rattle.std.proofs.lemmas.List.Concat.{flat_map-append}
 use Rattle.std.proofs.lemmas.List.Elements.{All-nil, All-head, All-tail, All-push}
-use Rattle.std.proofs.lemmas.Slice.Eq.{bytes_eq-Decides}
 use Rattle.std.specs.List.{list_all}
 use Rattle.std.specs.Prelude.{flat_map, unwrap_or}
 use Rattle.std.specs.Str.{bytes_eq}
@@ -14,11 +13,11 @@ use Rattle.stg_derive.specs.declared.step.Step.{Step}
 use Rattle.stg_derive.specs.declared.step.Step.TheVariants.{Contract, DropPlace, DropDummy}
 use Rattle.stg_derive.specs.declared.part.Restore.{Restore}
 use Rattle.stg_steps.specs.declared.log.Log.{Log}
-use Rattle.stg_steps.specs.LogText.{Row, restore_words, step_words, line_of, restore_lines, step_lines, log_text}
+use Rattle.stg_steps.specs.LogText.{LogRow, restore_words, step_words, line_of, restore_lines, step_lines}
 use Rattle.stg_steps.specs.Logs.{IsLogOf}
 use Rattle.stg_steps.specs.inner.Reading.{pieces, trans_words, restore_in, step_in, with_restore, with_step, with_row, is_over, or_bad, log_after, log_in}
 use Rattle.stg_steps.proofs.Gaps.{lacks, space, line_feed}
-use Rattle.stg_steps.proofs.Pieces.{parted, tailed, has_front, pieces_front, parted-pieces, pieces-more, pieces-parted, lacks-parted, line-parted}
+use Rattle.stg_steps.proofs.Pieces.{parted, has_front, pieces_front, parted-pieces, pieces-more, pieces-parted, lacks-parted, line-parted}
 use Rattle.stg_steps.proofs.ToldRows.{same_some, never, by_test, is_word, told-record, told-step}
 use Rattle.stg_steps.proofs.WrittenRows.{restore_in-words, step_in-words, lack-restore, lack-step}
 
@@ -45,14 +44,14 @@ none_left [] h = refl
 none_left (x ∷ xs) h = absurd (omega (arith, h))
 
 -- a line is its pieces between spaces, and LF
-line-front : (ws : Row) → has_front ws ≡ true → line_of ws ≡ parted 32 ws ++ 10 ∷ []
+line-front : (ws : LogRow) → has_front ws ≡ true → line_of ws ≡ parted 32 ws ++ 10 ∷ []
 line-front [] h = absurd (false≢true h)
 line-front (w ∷ ws) h = line-parted w ws
 
 pub line-pieces : (line : List ℕ) → line_of (pieces 32 line) ≡ line ++ 10 ∷ []
 line-pieces line = line-front (pieces 32 line) (pieces_front 32 line) ∙ ap (λ l. l ++ 10 ∷ []) (parted-pieces 32 line)
 
-pub over_is : (ps : Row) → is_over ps ≡ true → ps ≡ [] ∷ []
+pub over_is : (ps : LogRow) → is_over ps ≡ true → ps ≡ [] ∷ []
 over_is [] h = absurd (false≢true h)
 over_is ([] ∷ []) h = refl
 over_is ([] ∷ w ∷ ws) h = absurd (false≢true h)
@@ -65,7 +64,7 @@ ok_same : {A B : Type 0} (a b : A) → ◌≡◌ {A = Result A B} (Ok a) (Ok b) 
 ok_same a b e = cc
 
 -- what comes of a whole line
-pub after_line : (n : NetLists) (number : ℕ) (log : Log) (line : List ℕ) (ps : Row) → has_front ps ≡ true
+pub after_line : (n : NetLists) (number : ℕ) (log : Log) (line : List ℕ) (ps : LogRow) → has_front ps ≡ true
     → log_after n number log (line ∷ ps)
     ≡ cond (bytes_eq line (codes "end")) (cond (is_over ps) (Ok log) (Err (number + 1)))
     (or_bad number (with_row n (trans_words n) log (pieces 32 line)) (log_after n (number + 1) (unwrap_or (with_row n (trans_words n) log (pieces 32 line)) log) ps))
@@ -74,10 +73,10 @@ after_line n number log line (w ∷ ps) h = refl
 
 -- a row that is read adds its line
 module _ (n : NetLists) (net : IsNet n) where
-  abbrev pub Adds : Log → Row → Log → Type 0
+  abbrev pub Adds : Log → LogRow → Log → Type 0
   Adds log row new = CanBeLogged n new × (begun n new ≡ begun n log ++ line_of row)
 
-  adds-record : (log : Log) (row : Row) (r : Restore) → log.steps ≡ [] → CanBeLogged n log → row ≡ restore_words n r → IsLoggableRecord n r → Adds log row (record log { restored = log.restored ++ r ∷ [] })
+  adds-record : (log : Log) (row : LogRow) (r : Restore) → log.steps ≡ [] → CanBeLogged n log → row ≡ restore_words n r → IsLoggableRecord n r → Adds log row (record log { restored = log.restored ++ r ∷ [] })
   adds-record log row r none can is h =
       let lines = restore_lines n log.restored in
       let line = line_of (restore_words n r) in
@@ -89,7 +88,7 @@ module _ (n : NetLists) (net : IsNet n) where
             ∙ ap (λ w. begun n log ++ line_of w) (sym is),
       )
 
-  adds-step : (log : Log) (row : Row) (s : Step) → CanBeLogged n log → row ≡ step_words n s → IsLoggableStep (length n.trans) s → Adds log row (record log { steps = log.steps ++ s ∷ [] })
+  adds-step : (log : Log) (row : LogRow) (s : Step) → CanBeLogged n log → row ≡ step_words n s → IsLoggableStep (length n.trans) s → Adds log row (record log { steps = log.steps ++ s ∷ [] })
   adds-step log row s can is h =
       let lines = restore_lines n log.restored in
       let line = line_of (step_words n s) in (
@@ -99,7 +98,7 @@ module _ (n : NetLists) (net : IsNet n) where
             ∙ ap (λ w. begun n log ++ line_of w) (sym is),
       )
 
-  adds-restored : (log : Log) (w : List ℕ) (rest : Row) (new : Log) → CanBeLogged n log → w ≡ codes "restore" → with_restore log (restore_in n (trans_words n) rest) ≡ Some new → Adds log (w ∷ rest) new
+  adds-restored : (log : Log) (w : List ℕ) (rest : LogRow) (new : Log) → CanBeLogged n log → w ≡ codes "restore" → with_restore log (restore_in n (trans_words n) rest) ≡ Some new → Adds log (w ∷ rest) new
   adds-restored log w rest new can is e = by (restore_in n (trans_words n) rest) refl e
     where
       by : (o : Option Restore) → restore_in n (trans_words n) rest ≡ o → with_restore log o ≡ Some new → Adds log (w ∷ rest) new
@@ -111,7 +110,7 @@ module _ (n : NetLists) (net : IsNet n) where
             | inr z ↦ same_some (Adds log (w ∷ rest)) (record log { restored = log.restored ++ r ∷ [] }) new z.1 (adds-record log (w ∷ rest) r (none_left log.steps (leb-false 1 (length log.steps) z.0)) can told.0 told.1)
           ]
 
-  adds-stepped : (log : Log) (row : Row) (new : Log) → CanBeLogged n log → with_step log (step_in (trans_words n) row) ≡ Some new → Adds log row new
+  adds-stepped : (log : Log) (row : LogRow) (new : Log) → CanBeLogged n log → with_step log (step_in (trans_words n) row) ≡ Some new → Adds log row new
   adds-stepped log row new can e = by (step_in (trans_words n) row) refl e
     where
       by : (o : Option Step) → step_in (trans_words n) row ≡ o → with_step log o ≡ Some new → Adds log row new
@@ -120,7 +119,7 @@ module _ (n : NetLists) (net : IsNet n) where
           let told = told-step n row s at in
           same_some (Adds log row) (record log { steps = log.steps ++ s ∷ [] }) new h (adds-step log row s can told.0 told.1)
 
-  pub adds-row : (log : Log) (row : Row) (new : Log) → CanBeLogged n log → with_row n (trans_words n) log row ≡ Some new → Adds log row new
+  pub adds-row : (log : Log) (row : LogRow) (new : Log) → CanBeLogged n log → with_row n (trans_words n) log row ≡ Some new → Adds log row new
   adds-row log [] new can e = absurd (never new e)
   adds-row log (w ∷ rest) new can e = elim (by_test (bytes_eq w (codes "restore")) (with_restore log (restore_in n (trans_words n) rest)) (with_step log (step_in (trans_words n) (w ∷ rest))) new e) [
     | inl y ↦ adds-restored log w rest new can (is_word w (codes "restore") y.0) y.1
@@ -131,15 +130,15 @@ module _ (n : NetLists) (net : IsNet n) where
   pub adds-line : (log : Log) (line : List ℕ) (new : Log) → CanBeLogged n log → with_row n (trans_words n) log (pieces 32 line) ≡ Some new → CanBeLogged n new × (begun n new ≡ begun n log ++ (line ++ 10 ∷ []))
   adds-line log line new can e = let a = adds-row log (pieces 32 line) new can e in (a.0, a.1 ∙ ap (λ l. begun n log ++ l) (line-pieces line))
 
-  abbrev Told : Log → Row → Log → Type 0
+  abbrev Told : Log → LogRow → Log → Type 0
   Told log ps found = CanBeLogged n found × (begun n log ++ parted 10 ps ≡ begun n found ++ codes "end\n")
 
-  told_later : (log : Log) (line : List ℕ) (ps : Row) (new found : Log) → begun n new ≡ begun n log ++ (line ++ 10 ∷ []) → Told new ps found → CanBeLogged n found × (begun n log ++ (line ++ 10 ∷ parted 10 ps) ≡ begun n found ++ codes "end\n")
+  told_later : (log : Log) (line : List ℕ) (ps : LogRow) (new found : Log) → begun n new ≡ begun n log ++ (line ++ 10 ∷ []) → Told new ps found → CanBeLogged n found × (begun n log ++ (line ++ 10 ∷ parted 10 ps) ≡ begun n found ++ codes "end\n")
   told_later log line ps new found more told =
       (told.0, sym (ap (λ l. l ++ parted 10 ps) more ∙ append_assoc (begun n log) (line ++ 10 ∷ []) (parted 10 ps) ∙ ap (λ l. begun n log ++ l) (append_assoc line (10 ∷ []) (parted 10 ps))) ∙ told.1)
 
   -- pieces that are read as a log make up its text
-  told_pieces : (ps : Row) (number : ℕ) (log found : Log) → log_after n number log ps ≡ Ok found → CanBeLogged n log → Told log ps found
+  told_pieces : (ps : LogRow) (number : ℕ) (log found : Log) → log_after n number log ps ≡ Ok found → CanBeLogged n log → Told log ps found
   told_pieces [] number log found e can = absurd (err_ok found number e)
   told_pieces (line ∷ []) number log found e can = absurd (err_ok found number e)
   told_pieces (line ∷ next ∷ more) number log found e can = by_end (bytes_eq line (codes "end")) refl (λ new. told_pieces (next ∷ more) (number + 1) new found) e
@@ -199,17 +198,17 @@ module _ (n : NetLists) (net : IsNet n) (named : IsWellNamed n) where
   step-front (DropPlace found) = refl
   step-front (DropDummy found) = refl
 
-  pieces-line : (row : Row) (rest : List ℕ) → has_front row ≡ true → list_all (lacks 10) row ≡ true → pieces 10 (line_of row ++ rest) ≡ parted 32 row ∷ pieces 10 rest
+  pieces-line : (row : LogRow) (rest : List ℕ) → has_front row ≡ true → list_all (lacks 10) row ≡ true → pieces 10 (line_of row ++ rest) ≡ parted 32 row ∷ pieces 10 rest
   pieces-line row rest front lack =
       ap (λ l. pieces 10 (l ++ rest)) (line-front row front) ∙ ap (pieces 10) (append_assoc (parted 32 row) (10 ∷ []) rest)
       ∙ pieces-more 10 (parted 32 row) rest (lacks-parted 32 10 row refl lack)
 
-  pieces-row : (row : Row) → has_front row ≡ true → list_all (lacks 32) row ≡ true → pieces 32 (parted 32 row) ≡ row
+  pieces-row : (row : LogRow) → has_front row ≡ true → list_all (lacks 32) row ≡ true → pieces 32 (parted 32 row) ≡ row
   pieces-row [] front lack = absurd (false≢true front)
   pieces-row (w ∷ ws) front lack = pieces-parted 32 w ws lack
 
   -- the line of a row that adds to the log
-  line_taken : (row : Row) (number : ℕ) (log new : Log) (rest : List ℕ) → has_front row ≡ true → list_all (lacks 32) row ≡ true → list_all (lacks 10) row ≡ true
+  line_taken : (row : LogRow) (number : ℕ) (log new : Log) (rest : List ℕ) → has_front row ≡ true → list_all (lacks 32) row ≡ true → list_all (lacks 10) row ≡ true
       → bytes_eq (parted 32 row) (codes "end") ≡ false → with_row n (trans_words n) log row ≡ Some new
       → log_after n number log (pieces 10 (line_of row ++ rest)) ≡ log_after n (number + 1) new (pieces 10 rest)
   line_taken row number log new rest front spaces lines other taken =

@@ -1,12 +1,12 @@
 -- Numbers of at most nine digits, written and read.
-use Rattle.std.proofs.Common.{◌≡◌, ℕ, ◌<◌, ◌≤◌, ◌^◌, ◌==◌, ◌&&◌, nat_le, not, Bool, true, false, cond, List, [], ◌∷◌, length, get_or, Option, Some, None, refl, sym, ap, ◌∙◌, arith, inl, inr}
+use Rattle.std.proofs.Common.{◌≡◌, ℕ, ◌<◌, ◌≤◌, ◌^◌, ◌==◌, ◌&&◌, nat_le, not, true, false, cond, List, [], ◌∷◌, length, get_or, Some, None, refl, sym, ap, ◌∙◌, arith, inl, inr}
 use Rattle.std.proofs.lemmas.Bool.{and_parts, and_from, cases_Bool, cases_eq, false_from_ne_true, eqb-true, eq-eqb, le-leb, leb-true, not-true, true≢false}
 use Rattle.std.proofs.lemmas.Fmt.{digits_decimal, digits_value-decimal, length-decimal-le, decimal_nonempty, decimal_digit, first_decimal, decimal-digits_value}
 use Rattle.std.proofs.lemmas.Str.Parse.{digits_value_short}
 use Rattle.std.specs.List.{list_all}
 use Rattle.std.specs.Prelude.{decimal}
 use Rattle.stg_net.specs.Names.{is_digit}
-use Rattle.stg_steps.specs.inner.Reading.{value_after, has_leading_zero, is_number, number_in}
+use Rattle.stg_steps.specs.inner.Reading.{value_behind, has_leading_zero, is_log_number, number_in}
 use Rattle.stg_steps.proofs.Gaps.{own}
 
 -- a first zero stands alone
@@ -33,13 +33,13 @@ number_in-decimal k h =
     let fits : k < 2 ^ 64 = omega (arith, h) in
     let at_least = decimal_nonempty k fits in
     let at_most : length w ≤ 9 = length-decimal-le 9 k (omega arith) (omega (arith, h)) fits in
-    let test : is_number w ≡ true =
+    let test : is_log_number w ≡ true =
     and_from (nat_le 1 (length w) && nat_le (length w) 9 && list_all is_digit w) (not (has_leading_zero w))
     (and_from (nat_le 1 (length w) && nat_le (length w) 9) (list_all is_digit w)
     (and_from (nat_le 1 (length w)) (nat_le (length w) 9) (le-leb 1 (length w) (omega (arith, at_least))) (le-leb (length w) 9 at_most))
     (digits_decimal own k fits))
     (ap not (no_leading w (first_alone k h))) in
-    ap (λ b. cond b (Some (value_after 0 w)) None) test ∙ ap Some (digits_value-decimal own k fits)
+    ap (λ b. cond b (Some (value_behind 0 w)) None) test ∙ ap Some (digits_value-decimal own k fits)
 
 some_same : {X : Type 0} (a b : X) → Some a ≡ Some b → a ≡ b
 some_same a b e = cc
@@ -49,16 +49,16 @@ some_none a e = cc
 
 -- a word that is read as a number is that number, written
 pub number_in-told : (w : List ℕ) (k : ℕ) → number_in w ≡ Some k → (k < 1000000000) × (w ≡ decimal k)
-number_in-told w k e = elim (cases_Bool (is_number w)) [
+number_in-told w k e = elim (cases_Bool (is_log_number w)) [
   | inl test ↦
       let p = and_parts (nat_le 1 (length w) && nat_le (length w) 9 && list_all is_digit w) (not (has_leading_zero w)) test in
       let q = and_parts (nat_le 1 (length w) && nat_le (length w) 9) (list_all is_digit w) p.0 in
       let r = and_parts (nat_le 1 (length w)) (nat_le (length w) 9) q.0 in
-      let value : value_after 0 w ≡ k = some_same (value_after 0 w) k (sym (ap (λ b. cond b (Some (value_after 0 w)) None) test) ∙ e) in
+      let value : value_behind 0 w ≡ k = some_same (value_behind 0 w) k (sym (ap (λ b. cond b (Some (value_behind 0 w)) None) test) ∙ e) in
       let some = leb-true 1 (length w) r.0 in
-      let small : value_after 0 w < 10 ^ 9 = digits_value_short own w 9 q.1 (leb-true (length w) 9 r.1) in (
+      let small : value_behind 0 w < 10 ^ 9 = digits_value_short own w 9 q.1 (leb-true (length w) 9 r.1) in (
         omega (arith, value, small),
         sym (decimal-digits_value own w q.1 (omega (arith, some)) (alone w (not-true (has_leading_zero w) p.1)) (omega (arith, small))) ∙ ap decimal value,
       )
-  | inr test ↦ absurd (some_none k (sym (ap (λ b. cond b (Some (value_after 0 w)) None) test) ∙ e))
+  | inr test ↦ absurd (some_none k (sym (ap (λ b. cond b (Some (value_behind 0 w)) None) test) ∙ e))
 ]

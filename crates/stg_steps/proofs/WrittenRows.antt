@@ -1,10 +1,9 @@
 -- The row of a record or a step is read as it, and its words have neither a space nor LF.
-use Rattle.std.proofs.Common.{◌≡◌, ℕ, ◌<◌, ◌^◌, ◌&&◌, Bool, true, false, cond, List, [], ◌∷◌, ◌++◌, codes, length, Option, Some, None, option_map, refl, sym, ap, ◌∙◌, arith}
+use Rattle.std.proofs.Common.{◌≡◌, ℕ, ◌<◌, Bool, true, cond, List, [], ◌∷◌, codes, length, Some, None, option_map, refl, sym, ap, ◌∙◌, arith}
 use Rattle.std.proofs.lemmas.Bool.{and_from}
 use Rattle.std.proofs.lemmas.Slice.Eq.{bytes_eq-Decides}
 use Rattle.std.specs.List.{list_all}
 use Rattle.std.specs.Prelude.{decimal}
-use Rattle.std.specs.Str.{bytes_eq}
 use Rattle.stg_net.specs.Names.{is_in_name, IsWellNamed}
 use Rattle.stg_net.specs.Net.{NetLists, IsNet, signal_at, trans_at}
 use Rattle.stg_contract.specs.declared.verdict.Verdict.{Verdict}
@@ -19,14 +18,14 @@ use Rattle.stg_derive.specs.declared.step.Secure.TheVariants as secure
 use Rattle.stg_derive.specs.declared.step.Step.{Step}
 use Rattle.stg_derive.specs.declared.step.Step.TheVariants.{Contract, DropPlace, DropDummy}
 use Rattle.stg_derive.specs.declared.part.Restore.{Restore}
-use Rattle.stg_steps.specs.LogText.{Row, word_of, verdict_words, restore_words, secure_word, place_rule_words, dummy_rule_words, step_words}
-use Rattle.stg_steps.specs.inner.Reading.{trans_words, place_in, number_in, clash_of, verdict_in, restore_of, restore_in, secure_in, contract_of, same_place_of, place_rule_in, drop_place_of, same_dummy_of, dummy_rule_in, drop_dummy_of, step_in}
+use Rattle.stg_steps.specs.LogText.{LogRow, word_at, verdict_words, restore_words, secure_word, place_rule_words, dummy_rule_words, step_words}
+use Rattle.stg_steps.specs.inner.Reading.{trans_words, clash_of, verdict_in, restore_of, restore_in, secure_in, contract_of, same_place_of, place_rule_in, drop_place_of, same_dummy_of, dummy_rule_in, drop_dummy_of, step_in}
 use Rattle.stg_steps.proofs.Gaps.{lacks, IsGap, lacks-plain, lacks-decimal, lacks-word, signal-bytes}
 use Rattle.stg_steps.proofs.TransPlaces.{place_in-word}
 use Rattle.stg_steps.proofs.WrittenNumbers.{number_in-decimal}
 
 module _ (n : NetLists) (net : IsNet n) (named : IsWellNamed n) where
-  abbrev words : Row
+  abbrev words : LogRow
   words = trans_words n
 
   verdict_in-words : (v : Verdict) → IsLoggableVerdict (length n.trans) v → verdict_in words (verdict_words n v) ≡ Some v
@@ -40,7 +39,7 @@ module _ (n : NetLists) (net : IsNet n) (named : IsWellNamed n) where
   verdict_in-words verdict.Large h = refl
 
   -- a record is read back from its words
-  pub restore_in-words : (r : Restore) → IsLoggableRecord n r → restore_in n words ((signal_at n.signals r.signal).name ∷ word_of n r.trans ∷ verdict_words n r.verdict) ≡ Some r
+  pub restore_in-words : (r : Restore) → IsLoggableRecord n r → restore_in n words ((signal_at n.signals r.signal).name ∷ word_at n r.trans ∷ verdict_words n r.verdict) ≡ Some r
   restore_in-words r h =
       let name = (signal_at n.signals r.signal).name in
       let signal = (trans_at n.trans r.trans).signal in
@@ -70,17 +69,17 @@ module _ (n : NetLists) (net : IsNet n) (named : IsWellNamed n) where
 
   -- no word of a line has a gap's byte
   module _ (c : ℕ) (gap : IsGap c) where
-    abbrev lack : Row → Bool
+    abbrev lack : LogRow → Bool
     lack row = list_all (lacks c) row
 
-    plain : (w : List ℕ) → list_all is_in_name w ≡ true → (row : Row) → lack row ≡ true → lack (w ∷ row) ≡ true
+    plain : (w : List ℕ) → list_all is_in_name w ≡ true → (row : LogRow) → lack row ≡ true → lack (w ∷ row) ≡ true
     plain w h row k = and_from (lacks c w) (lack row) (lacks-plain c gap w h) k
 
-    number : (k : ℕ) → k < 1000000000 → (row : Row) → lack row ≡ true → lack (decimal k ∷ row) ≡ true
+    number : (k : ℕ) → k < 1000000000 → (row : LogRow) → lack row ≡ true → lack (decimal k ∷ row) ≡ true
     number k h row r = and_from (lacks c (decimal k)) (lack row) (lacks-decimal c gap k (omega (arith, h))) r
 
-    trans : (t : ℕ) → t < length n.trans → (row : Row) → lack row ≡ true → lack (word_of n t ∷ row) ≡ true
-    trans t h row k = and_from (lacks c (word_of n t)) (lack row) (lacks-word n net named c gap t h) k
+    trans : (t : ℕ) → t < length n.trans → (row : LogRow) → lack row ≡ true → lack (word_at n t ∷ row) ≡ true
+    trans t h row k = and_from (lacks c (word_at n t)) (lack row) (lacks-word n net named c gap t h) k
 
     lack-verdict : (v : Verdict) → IsLoggableVerdict (length n.trans) v → lack (verdict_words n v) ≡ true
     lack-verdict verdict.Type1 h = absurd h
@@ -88,7 +87,7 @@ module _ (n : NetLists) (net : IsNet n) (named : IsWellNamed n) where
     lack-verdict verdict.Loop h = plain (codes "loop") refl [] refl
     lack-verdict verdict.Weight h = plain (codes "weight") refl [] refl
     lack-verdict verdict.Insecure h = plain (codes "insecure") refl [] refl
-    lack-verdict (verdict.Clash t u) h = plain (codes "clash") refl (word_of n t ∷ word_of n u ∷ []) (trans t h.0 (word_of n u ∷ []) (trans u h.1 [] refl))
+    lack-verdict (verdict.Clash t u) h = plain (codes "clash") refl (word_at n t ∷ word_at n u ∷ []) (trans t h.0 (word_at n u ∷ []) (trans u h.1 [] refl))
     lack-verdict (verdict.Places k) h = plain (codes "places") refl (decimal k ∷ []) (number k h [] refl)
     lack-verdict verdict.Large h = plain (codes "large") refl [] refl
 
@@ -96,10 +95,10 @@ module _ (n : NetLists) (net : IsNet n) (named : IsWellNamed n) where
     lack-restore r h =
         let rest = verdict_words n r.verdict in
         let name = (signal_at n.signals r.signal).name in
-        plain (codes "restore") refl (name ∷ word_of n r.trans ∷ rest)
-        (plain name (signal-bytes n net named r.signal h.signal_there) (word_of n r.trans ∷ rest) (trans r.trans h.there rest (lack-verdict r.verdict h.verdict)))
+        plain (codes "restore") refl (name ∷ word_at n r.trans ∷ rest)
+        (plain name (signal-bytes n net named r.signal h.signal_there) (word_at n r.trans ∷ rest) (trans r.trans h.there rest (lack-verdict r.verdict h.verdict)))
 
-    lack-secure : (s : Secure) → (row : Row) → lack row ≡ true → lack (secure_word s ∷ row) ≡ true
+    lack-secure : (s : Secure) → (row : LogRow) → lack row ≡ true → lack (secure_word s ∷ row) ≡ true
     lack-secure secure.Type1 row k = plain (codes "type1") refl row k
     lack-secure secure.Type2 row k = plain (codes "type2") refl row k
 
@@ -110,11 +109,11 @@ module _ (n : NetLists) (net : IsNet n) (named : IsWellNamed n) where
 
     lack-dummy_rule : (rule : DummyRule) → IsLoggableDummyRule (length n.trans) rule → lack (dummy_rule_words n rule) ≡ true
     lack-dummy_rule dummy_rule.Loop h = plain (codes "loop") refl [] refl
-    lack-dummy_rule (dummy_rule.Same u) h = plain (codes "same") refl (word_of n u ∷ []) (trans u h [] refl)
+    lack-dummy_rule (dummy_rule.Same u) h = plain (codes "same") refl (word_at n u ∷ []) (trans u h [] refl)
 
     pub lack-step : (s : Step) → IsLoggableStep (length n.trans) s → lack (step_words n s) ≡ true
     lack-step (Contract t secure k) h =
-        plain (codes "contract") refl (word_of n t ∷ secure_word secure ∷ codes "places" ∷ decimal k ∷ [])
+        plain (codes "contract") refl (word_at n t ∷ secure_word secure ∷ codes "places" ∷ decimal k ∷ [])
         (trans t h.0 (secure_word secure ∷ codes "places" ∷ decimal k ∷ []) (lack-secure secure (codes "places" ∷ decimal k ∷ []) (plain (codes "places") refl (decimal k ∷ []) (number k h.1 [] refl))))
     lack-step (DropPlace found) h =
         let rule = place_rule_words found.rule in
@@ -122,5 +121,5 @@ module _ (n : NetLists) (net : IsNet n) (named : IsWellNamed n) where
         (plain (codes "place") refl (decimal found.place ∷ rule) (number found.place h.0 rule (lack-place_rule found.rule h.1)))
     lack-step (DropDummy found) h =
         let rule = dummy_rule_words n found.rule in
-        plain (codes "drop") refl (codes "dummy" ∷ word_of n found.trans ∷ rule)
-        (plain (codes "dummy") refl (word_of n found.trans ∷ rule) (trans found.trans h.0 rule (lack-dummy_rule found.rule h.1)))
+        plain (codes "drop") refl (codes "dummy" ∷ word_at n found.trans ∷ rule)
+        (plain (codes "dummy") refl (word_at n found.trans ∷ rule) (trans found.trans h.0 rule (lack-dummy_rule found.rule h.1)))

@@ -17,28 +17,28 @@ use Rattle.stg_redundant.specs.declared.found.PlaceFound.{PlaceFound}
 use Rattle.stg_redundant.specs.declared.found.DummyFound.{DummyFound}
 
 -- the words of a line
-abbrev pub Row : Type 0
-Row = List (List ℕ)
+abbrev pub LogRow : Type 0
+LogRow = List (List ℕ)
 
 -- the word of a transition
-abbrev pub word_of : NetLists → ℕ → List ℕ
-word_of n t = trans_word n.signals n.trans t
+abbrev pub word_at : NetLists → ℕ → List ℕ
+word_at n t = trans_word n.signals n.trans t
 
 -- the words of a verdict
-abbrev pub verdict_words : NetLists → Verdict → Row
+abbrev pub verdict_words : NetLists → Verdict → LogRow
 verdict_words n verdict.Type1 = codes "type1" ∷ []
 verdict_words n verdict.Type2 = codes "type2" ∷ []
 verdict_words n verdict.Loop = codes "loop" ∷ []
 verdict_words n verdict.Weight = codes "weight" ∷ []
 verdict_words n verdict.Insecure = codes "insecure" ∷ []
-verdict_words n (verdict.Clash t u) = codes "clash" ∷ word_of n t ∷ word_of n u ∷ []
+verdict_words n (verdict.Clash t u) = codes "clash" ∷ word_at n t ∷ word_at n u ∷ []
 verdict_words n (verdict.Places k) = codes "places" ∷ decimal k ∷ []
 verdict_words n verdict.Large = codes "large" ∷ []
 
 -- the words of a record
-abbrev pub restore_words : NetLists → Restore → Row
+abbrev pub restore_words : NetLists → Restore → LogRow
 restore_words n r =
-    codes "restore" ∷ (signal_at n.signals r.signal).name ∷ word_of n r.trans
+    codes "restore" ∷ (signal_at n.signals r.signal).name ∷ word_at n r.trans
     ∷ verdict_words n r.verdict
 
 -- the word of a kind of contraction
@@ -47,44 +47,44 @@ secure_word secure.Type1 = codes "type1"
 secure_word secure.Type2 = codes "type2"
 
 -- the words of the rule by which a place is redundant
-abbrev pub place_rule_words : PlaceRule → Row
+abbrev pub place_rule_words : PlaceRule → LogRow
 place_rule_words (place_rule.Same q) = codes "same" ∷ decimal q ∷ []
 place_rule_words place_rule.Loop = codes "loop" ∷ []
 place_rule_words place_rule.Shortcut = codes "shortcut" ∷ []
 
 -- the words of the rule by which a dummy is redundant
-abbrev pub dummy_rule_words : NetLists → DummyRule → Row
+abbrev pub dummy_rule_words : NetLists → DummyRule → LogRow
 dummy_rule_words n dummy_rule.Loop = codes "loop" ∷ []
-dummy_rule_words n (dummy_rule.Same u) = codes "same" ∷ word_of n u ∷ []
+dummy_rule_words n (dummy_rule.Same u) = codes "same" ∷ word_at n u ∷ []
 
 -- the words of a contraction
-abbrev pub contract_words : NetLists → ℕ → Secure → ℕ → Row
+abbrev pub contract_words : NetLists → ℕ → Secure → ℕ → LogRow
 contract_words n t secure places =
-    codes "contract" ∷ word_of n t ∷ secure_word secure ∷ codes "places" ∷ decimal places ∷ []
+    codes "contract" ∷ word_at n t ∷ secure_word secure ∷ codes "places" ∷ decimal places ∷ []
 
 -- the words of a place's deletion
-abbrev pub drop_place_words : PlaceFound → Row
+abbrev pub drop_place_words : PlaceFound → LogRow
 drop_place_words found =
     codes "drop" ∷ codes "place" ∷ decimal found.place ∷ place_rule_words found.rule
 
 -- the words of a dummy's deletion
-abbrev pub drop_dummy_words : NetLists → DummyFound → Row
+abbrev pub drop_dummy_words : NetLists → DummyFound → LogRow
 drop_dummy_words n found =
-    codes "drop" ∷ codes "dummy" ∷ word_of n found.trans ∷ dummy_rule_words n found.rule
+    codes "drop" ∷ codes "dummy" ∷ word_at n found.trans ∷ dummy_rule_words n found.rule
 
 -- the words of a step
-abbrev pub step_words : NetLists → Step → Row
+abbrev pub step_words : NetLists → Step → LogRow
 step_words n (Contract t secure places) = contract_words n t secure places
 step_words n (DropPlace found) = drop_place_words found
 step_words n (DropDummy found) = drop_dummy_words n found
 
 -- further words, each after a space (32)
-abbrev pub spaced : Row → List ℕ
+abbrev pub spaced : LogRow → List ℕ
 spaced [] = []
 spaced (w ∷ ws) = 32 ∷ w ++ spaced ws
 
 -- the words with a space between each two, and LF (10)
-abbrev pub line_of : Row → List ℕ
+abbrev pub line_of : LogRow → List ℕ
 line_of [] = 10 ∷ []
 line_of (w ∷ ws) = w ++ spaced ws ++ 10 ∷ []
 

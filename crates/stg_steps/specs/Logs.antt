@@ -45,7 +45,7 @@ IsRead log (Err (BadLine line)) = ⊥
 IsRead log (Err NoMemory) = ⊤
 
 -- the line is told, unless memory runs out
-abbrev pub IsRefused : ℕ → Result Log StepError → Type 0
-IsRefused line (Ok found) = ⊥
-IsRefused line (Err (BadLine told)) = told ≡ line
-IsRefused line (Err NoMemory) = ⊤
+abbrev pub IsLineTold : ℕ → Result Log StepError → Type 0
+IsLineTold line (Ok found) = ⊥
+IsLineTold line (Err (BadLine told)) = told ≡ line
+IsLineTold line (Err NoMemory) = ⊤

@@ -2,7 +2,7 @@
 
 ghost use Rattle.std.specs.Prelude.{◌≡◌, ◌<◌, ◌^◌, ◌∷◌, [], length, IfSome};
 ghost use Rattle.stg_steps.specs.inner.Reading as reading;
-ghost use Rattle.stg_steps.specs.inner.Taking.{texts};
+ghost use Rattle.stg_steps.specs.inner.Taking.{lent_words};
 
 use crate::words::{TransWords, number_in};
 use stg_contract::Verdict;
@@ -26,8 +26,8 @@ fn lone_verdict(word: &[u8]) -> Option<Verdict>
     }
 }
 
-fn places_in(word: &[u8]) -> Option<Verdict>
-    ensures { result ≡ reading.places_in word.now }
+fn places_verdict(word: &[u8]) -> Option<Verdict>
+    ensures { result ≡ reading.places_verdict word.now }
 {
     match number_in(word) {
         Some(k) => Some(Verdict::Places(k)),
@@ -46,13 +46,13 @@ fn clash_of(t: Option<u32>, u: Option<u32>) -> Option<Verdict>
 
 fn verdict_in(words: &TransWords, row: &[&[u8]]) -> Option<Verdict>
     requires { length words.now < 2 ^ 32 }
-    ensures { result ≡ reading.verdict_in words.now (texts row.now) }
+    ensures { result ≡ reading.verdict_in words.now (lent_words row.now) }
 {
     match row {
         [w] => lone_verdict(*w),
         [w, k] => {
             if *w == b"places".as_slice() {
-                places_in(*k)
+                places_verdict(*k)
             } else {
                 None
             }
@@ -93,7 +93,7 @@ fn restore_of(net: &Net, name: &[u8], t: Option<u32>, verdict: Option<Verdict>) 
 pub(crate) fn restore_in(net: &Net, words: &TransWords, row: &[&[u8]]) -> Option<Restore>
     requires long { length words.now ≡ length net.now.trans }
     requires few { length words.now < 2 ^ 32 }
-    ensures { result ≡ reading.restore_in net.now words.now (texts row.now) }
+    ensures { result ≡ reading.restore_in net.now words.now (lent_words row.now) }
 {
     match row {
         [] => None,
@@ -129,7 +129,7 @@ fn contract_of(t: Option<u32>, secure: Option<Secure>, k: Option<u32>) -> Option
 
 fn contract_in(words: &TransWords, row: &[&[u8]]) -> Option<Step>
     requires { length words.now < 2 ^ 32 }
-    ensures { result ≡ reading.contract_in words.now (texts row.now) }
+    ensures { result ≡ reading.contract_in words.now (lent_words row.now) }
 {
     match row {
         [t, kind, w, k] => {
@@ -165,7 +165,7 @@ fn lone_place_rule(word: &[u8]) -> Option<PlaceRule>
 }
 
 fn place_rule_in(row: &[&[u8]]) -> Option<PlaceRule>
-    ensures { result ≡ reading.place_rule_in (texts row.now) }
+    ensures { result ≡ reading.place_rule_in (lent_words row.now) }
 {
     match row {
         [w] => lone_place_rule(*w),
@@ -200,7 +200,7 @@ fn same_dummy_of(u: Option<u32>) -> Option<DummyRule>
 
 fn dummy_rule_in(words: &TransWords, row: &[&[u8]]) -> Option<DummyRule>
     requires { length words.now < 2 ^ 32 }
-    ensures { result ≡ reading.dummy_rule_in words.now (texts row.now) }
+    ensures { result ≡ reading.dummy_rule_in words.now (lent_words row.now) }
 {
     match row {
         [w] => {
@@ -232,7 +232,7 @@ fn drop_dummy_of(t: Option<u32>, rule: Option<DummyRule>) -> Option<Step>
 
 fn drop_in(words: &TransWords, row: &[&[u8]]) -> Option<Step>
     requires { length words.now < 2 ^ 32 }
-    ensures { result ≡ reading.drop_in words.now (texts row.now) }
+    ensures { result ≡ reading.drop_in words.now (lent_words row.now) }
 {
     match row {
         [] => None,
@@ -252,7 +252,7 @@ fn drop_in(words: &TransWords, row: &[&[u8]]) -> Option<Step>
 /// The step that the words of a line tell.
 pub(crate) fn step_in(words: &TransWords, row: &[&[u8]]) -> Option<Step>
     requires { length words.now < 2 ^ 32 }
-    ensures { result ≡ reading.step_in words.now (texts row.now) }
+    ensures { result ≡ reading.step_in words.now (lent_words row.now) }
 {
     match row {
         [] => None,

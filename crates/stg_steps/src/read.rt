@@ -4,9 +4,9 @@ ghost use Rattle.std.specs.Prelude.{◌≡◌, ◌<◌, ◌^◌, ℕ, length, Ok
 ghost use Rattle.std.specs.Str.{bytes_eq};
 ghost use Rattle.astg_lex.specs.Lines.{line_ends};
 ghost use Rattle.stg_steps.specs.declared.log.Log.{Log as LogLists};
-ghost use Rattle.stg_steps.specs.Logs.{IsLogOf, IsBadLine, IsFaultOf, IsRead, IsRefused};
+ghost use Rattle.stg_steps.specs.Logs.{IsLogOf, IsBadLine, IsFaultOf, IsRead, IsLineTold};
 ghost use Rattle.stg_steps.specs.inner.Reading as reading;
-ghost use Rattle.stg_steps.specs.inner.Taking.{texts, Takes, IsErrorOf};
+ghost use Rattle.stg_steps.specs.inner.Taking.{lent_words, TakesLine, IsErrorOf};
 
 use crate::lines::{restore_in, step_in};
 use crate::words::{TransWords, after, before, piece_length, split_words, trans_words};
@@ -15,9 +15,9 @@ use std::alloc::Global;
 use stg_derive::{Restore, Step};
 use stg_net::{Net, NoMemory, Seq, Spec};
 
-/// Takes a record, where there is one and no step was taken yet.
+/// TakesLine a record, where there is one and no step was taken yet.
 fn take_restore(log: &mut Log, found: Option<Restore>) -> Result<bool, NoMemory>
-    ensures { IfOk result (λ taken. Takes taken (reading.with_restore log.old found) log.new) }
+    ensures { IfOk result (λ taken. TakesLine taken (reading.with_restore log.old found) log.new) }
 {
     match found {
         None => Ok(false),
@@ -32,7 +32,7 @@ fn take_restore(log: &mut Log, found: Option<Restore>) -> Result<bool, NoMemory>
 }
 
 fn take_step(log: &mut Log, found: Option<Step>) -> Result<bool, NoMemory>
-    ensures { IfOk result (λ taken. Takes taken (reading.with_step log.old found) log.new) }
+    ensures { IfOk result (λ taken. TakesLine taken (reading.with_step log.old found) log.new) }
 {
     match found {
         None => Ok(false),
@@ -43,12 +43,12 @@ fn take_step(log: &mut Log, found: Option<Step>) -> Result<bool, NoMemory>
     }
 }
 
-/// Takes a line of these words, and tells whether it is of the form.
+/// TakesLine a line of these words, and tells whether it is of the form.
 fn take_row(net: &Net, words: &TransWords, log: &mut Log, row: &[&[u8]]) -> Result<bool, NoMemory>
     requires long { length words.now ≡ length net.now.trans }
     requires few { length words.now < 2 ^ 32 }
     ensures { IfOk result
-        (λ taken. Takes taken (reading.with_row net.now words.now log.old (texts row.now))
+        (λ taken. TakesLine taken (reading.with_row net.now words.now log.old (lent_words row.now))
         log.new) }
 {
     match row {
@@ -73,7 +73,7 @@ fn take_line(
     requires words { words.now ≡ reading.trans_words net.now }
     requires few { length net.now.trans < 2 ^ 32 }
     ensures { IfOk result
-        (λ taken. Takes taken
+        (λ taken. TakesLine taken
         (reading.with_row net.now (reading.trans_words net.now) log.old
         (reading.pieces 32 line.now)) log.new) }
 {
@@ -124,9 +124,10 @@ fn read_lines(alloc: Global, net: &Net, words: &TransWords, text: &[u8]) -> Resu
     }
 }
 
-/// Reads a log as `write_steps` writes it. It is refused with the number, from 1 on, of the first
-/// line that isn't of the form. A text whose last line isn't ended by LF, or whose last line isn't
-/// `end`, is bad at the line after its last LF. Whether the steps can be done isn't asked.
+/// Reads a log as `write_steps` writes it. Where the text is none, the error has the number, from 1
+/// on, of the first line that isn't of the form; where only the last line is wrong, as it isn't
+/// ended by LF or isn't `end`, it is that after the last LF. Whether the steps can be done isn't
+/// asked.
 pub fn read_steps(alloc: Global, spec: &Spec, text: &[u8]) -> Result<Log, StepError>
     requires { line_ends text.now < 4294967295 }
     ensures ok { IfOk result (λ log. IsLogOf spec.now.net text.now log) }
@@ -135,7 +136,7 @@ pub fn read_steps(alloc: Global, spec: &Spec, text: &[u8]) -> Result<Log, StepEr
     // The log of a text is read, and its bad line told, where there is memory.
     ensures read { (log : LogLists) → IsLogOf spec.now.net text.now log → IsRead log result }
     ensures refused { (line : ℕ) → IsBadLine spec.now.net text.now line
-        → IsRefused line result }
+        → IsLineTold line result }
 {
     let net = spec.net();
     let words = trans_words(alloc, net)?;

@@ -1,4 +1,4 @@
-//! The logs of worked parts, and texts that are no logs.
+//! The logs of worked parts, and lent_words that are no logs.
 
 use crate::StepError;
 use crate::rows::{CLASH, ROWS};

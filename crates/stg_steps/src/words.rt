@@ -5,7 +5,7 @@ ghost use Rattle.std.specs.List.{list_all, position_or_len};
 ghost use Rattle.stg_net.specs.Names as forms;
 ghost use Rattle.stg_net.specs.Names.{IsWellNamed};
 ghost use Rattle.stg_steps.specs.inner.Reading as reading;
-ghost use Rattle.stg_steps.specs.inner.Taking.{texts};
+ghost use Rattle.stg_steps.specs.inner.Taking.{lent_words};
 
 use indexmap::IndexMap;
 use std::alloc::Global;
@@ -43,7 +43,7 @@ pub(crate) fn after(bytes: &[u8], count: usize) -> &[u8]
 
 /// The words of a line, between which one space stands.
 pub(crate) fn split_words<'a>(alloc: Global, line: &'a [u8]) -> Result<Seq<&'a [u8]>, NoMemory>
-    ensures { IfOk result (λ words. texts words ≡ reading.pieces 32 line.now) }
+    ensures { IfOk result (λ words. lent_words words ≡ reading.pieces 32 line.now) }
 {
     let mut words = Seq::new(alloc);
     let mut rest = line;
@@ -79,8 +79,8 @@ fn has_leading_zero(word: &[u8]) -> bool
     }
 }
 
-fn is_number(word: &[u8]) -> bool
-    ensures { result ≡ reading.is_number word.now }
+fn is_log_number(word: &[u8]) -> bool
+    ensures { result ≡ reading.is_log_number word.now }
 {
     1 <= word.len() && word.len() <= 9 && all_digits(word) && !has_leading_zero(word)
 }
@@ -88,7 +88,7 @@ fn is_number(word: &[u8]) -> bool
 fn value(digits: &[u8]) -> u32
     requires few { length digits.now ≤ 9 }
     requires all { list_all forms.is_digit digits.now ≡ true }
-    ensures { result ≡ reading.value_after 0 digits.now }
+    ensures { result ≡ reading.value_behind 0 digits.now }
 {
     let mut n = 0;
     for c in digits {
@@ -101,7 +101,7 @@ fn value(digits: &[u8]) -> u32
 pub(crate) fn number_in(word: &[u8]) -> Option<u32>
     ensures { result ≡ reading.number_in word.now }
 {
-    if is_number(word) {
+    if is_log_number(word) {
         Some(value(word))
     } else {
         None

@@ -27,7 +27,7 @@ fn push_number(text: &mut Text, number: u32) -> Result<(), NoMemory>
 fn push_trans(alloc: Global, text: &mut Text, net: &Net, t: u32) -> Result<(), NoMemory>
     requires { t < length net.now.trans }
     ensures { OnOk result
-        (text.new ≡ text.old ++ log_text.spaced (log_text.word_of net.now t ∷ [])) }
+        (text.new ≡ text.old ++ log_text.spaced (log_text.word_at net.now t ∷ [])) }
 {
     let word = trans_text(alloc, net, t)?;
     push_word(text, word.as_slice())
@@ -194,7 +194,8 @@ fn push_steps(alloc: Global, text: &mut Text, net: &Net, steps: &[Step]) -> Resu
     Ok(())
 }
 
-/// Writes the log of a part: a line for each record, one for each step, and `end`.
+/// Writes the log of a part: a line for each record, one for each step, and `end`. Those of a part
+/// that `derive` made can be logged.
 pub fn write_steps(alloc: Global, spec: &Spec, part: &Part) -> Result<Text, NoMemory>
     requires { IsLoggable spec.now.net part.now }
     ensures { IfOk result

@@ -1,5 +1,5 @@
 -- How a log is read: what each line tells, and the first line that tells nothing.
-use Rattle.std.specs.Prelude.{◌≡◌, ℕ, Bool, true, false, not, ◌&&◌, ◌||◌, ◌==◌, ◌+◌, ◌*◌, ◌-◌, unwrap_or, nat_le, suc, List, [], ◌∷◌, ◌++◌, codes, length, position, Option, Some, None, option_map, Result, Ok, Err, if◌then◌else◌, ⊤}
+use Rattle.std.specs.Prelude.{ℕ, Bool, true, false, not, ◌&&◌, ◌==◌, ◌+◌, ◌*◌, ◌-◌, unwrap_or, nat_le, suc, List, [], ◌∷◌, ◌++◌, codes, length, position, Option, Some, None, option_map, Result, Ok, Err, if◌then◌else◌}
 use Rattle.std.specs.Str.{bytes_eq}
 use Rattle.std.specs.List.{list_all}
 use Rattle.stg_net.specs.Names.{is_digit}
@@ -17,14 +17,14 @@ use Rattle.stg_derive.specs.declared.step.Step.{Step}
 use Rattle.stg_derive.specs.declared.step.Step.TheVariants.{Contract, DropPlace, DropDummy}
 use Rattle.stg_derive.specs.declared.part.Restore.{Restore}
 use Rattle.stg_steps.specs.declared.log.Log.{Log}
-use Rattle.stg_steps.specs.LogText.{Row, word_of}
+use Rattle.stg_steps.specs.LogText.{LogRow, word_at}
 
 -- the pieces between the bytes c, those without bytes too
-abbrev pub with_front : ℕ → Row → Row
+abbrev pub with_front : ℕ → LogRow → LogRow
 with_front b [] = (b ∷ []) ∷ []
 with_front b (w ∷ ws) = (b ∷ w) ∷ ws
 
-abbrev pub pieces : ℕ → List ℕ → Row
+abbrev pub pieces : ℕ → List ℕ → LogRow
 pieces c [] = [] ∷ []
 pieces c (b ∷ bs) = if b == c then [] ∷ pieces c bs else with_front b (pieces c bs)
 
@@ -34,9 +34,9 @@ piece_length c [] = 0
 piece_length c (b ∷ bs) = if b == c then 0 else suc (piece_length c bs)
 
 -- the value of digits after others whose number is n
-abbrev pub value_after : ℕ → List ℕ → ℕ
-value_after n [] = n
-value_after n (c ∷ cs) = value_after (n * 10 + (c - 48)) cs
+abbrev pub value_behind : ℕ → List ℕ → ℕ
+value_behind n [] = n
+value_behind n (c ∷ cs) = value_behind (n * 10 + (c - 48)) cs
 
 -- a first digit of 0 (48) with others after it
 abbrev pub has_leading_zero : List ℕ → Bool
@@ -45,20 +45,20 @@ has_leading_zero (c ∷ []) = false
 has_leading_zero (c ∷ d ∷ cs) = c == 48
 
 -- 1 to 9 digits without leading zeros
-abbrev pub is_number : List ℕ → Bool
-is_number w =
+abbrev pub is_log_number : List ℕ → Bool
+is_log_number w =
     nat_le 1 (length w) && nat_le (length w) 9 && list_all is_digit w && not (has_leading_zero w)
 
 -- the number of a word
 abbrev pub number_in : List ℕ → Option ℕ
-number_in w = if is_number w then Some (value_after 0 w) else None
+number_in w = if is_log_number w then Some (value_behind 0 w) else None
 
 -- the words of the transitions, in the order of their numbers
-abbrev pub trans_words : NetLists → Row
-trans_words n = listed_below (λ t. word_of n t ∷ []) (length n.trans)
+abbrev pub trans_words : NetLists → LogRow
+trans_words n = listed_below (λ t. word_at n t ∷ []) (length n.trans)
 
 -- where the word stands first
-abbrev pub place_in : Row → List ℕ → Option ℕ
+abbrev pub place_in : LogRow → List ℕ → Option ℕ
 place_in row w = position (λ x. bytes_eq w x) row
 
 -- the verdict of one word
@@ -71,8 +71,8 @@ lone_verdict w =
     else None
 
 -- the verdict of so many places
-abbrev pub places_in : List ℕ → Option Verdict
-places_in k = option_map (λ p. verdict.Places p) (number_in k)
+abbrev pub places_verdict : List ℕ → Option Verdict
+places_verdict k = option_map (λ p. verdict.Places p) (number_in k)
 
 -- the verdict of a clash, where both transitions are there
 abbrev pub clash_of : Option ℕ → Option ℕ → Option Verdict
@@ -80,9 +80,9 @@ clash_of (Some t) (Some u) = Some (verdict.Clash t u)
 clash_of t u = None
 
 -- the verdict of these words
-abbrev pub verdict_in : Row → Row → Option Verdict
+abbrev pub verdict_in : LogRow → LogRow → Option Verdict
 verdict_in words (w ∷ []) = lone_verdict w
-verdict_in words (w ∷ k ∷ []) = if bytes_eq w (codes "places") then places_in k else None
+verdict_in words (w ∷ k ∷ []) = if bytes_eq w (codes "places") then places_verdict k else None
 verdict_in words (w ∷ t ∷ u ∷ []) =
     if bytes_eq w (codes "clash") then clash_of (place_in words t) (place_in words u) else None
 verdict_in words row = None
@@ -95,7 +95,7 @@ restore_of n name (Some t) (Some v) =
 restore_of n name t v = None
 
 -- the record of these words after the first
-abbrev pub restore_in : NetLists → Row → Row → Option Restore
+abbrev pub restore_in : NetLists → LogRow → LogRow → Option Restore
 restore_in n words (name ∷ t ∷ rest) =
     restore_of n name (place_in words t) (verdict_in words rest)
 restore_in n words row = None
@@ -113,7 +113,7 @@ contract_of (Some t) (Some s) (Some k) = Some (Contract t s k)
 contract_of t s k = None
 
 -- the contraction of these words after the first
-abbrev pub contract_in : Row → Row → Option Step
+abbrev pub contract_in : LogRow → LogRow → Option Step
 contract_in words (t ∷ kind ∷ w ∷ k ∷ []) =
     if bytes_eq w (codes "places")
     then contract_of (place_in words t) (secure_in kind) (number_in k) else None
@@ -125,7 +125,7 @@ same_place_of (Some q) = Some (place_rule.Same q)
 same_place_of None = None
 
 -- the rule of these words by which a place is redundant
-abbrev pub place_rule_in : Row → Option PlaceRule
+abbrev pub place_rule_in : LogRow → Option PlaceRule
 place_rule_in (w ∷ []) =
     if bytes_eq w (codes "loop") then Some place_rule.Loop
     else if bytes_eq w (codes "shortcut") then Some place_rule.Shortcut
@@ -145,7 +145,7 @@ same_dummy_of (Some u) = Some (dummy_rule.Same u)
 same_dummy_of None = None
 
 -- the rule of these words by which a dummy is redundant
-abbrev pub dummy_rule_in : Row → Row → Option DummyRule
+abbrev pub dummy_rule_in : LogRow → LogRow → Option DummyRule
 dummy_rule_in words (w ∷ []) =
     if bytes_eq w (codes "loop") then Some dummy_rule.Loop else None
 dummy_rule_in words (w ∷ u ∷ []) =
@@ -158,7 +158,7 @@ drop_dummy_of (Some t) (Some rule) = Some (DropDummy (record { trans = t; rule =
 drop_dummy_of t rule = None
 
 -- the deletion of these words after the first
-abbrev pub drop_in : Row → Row → Option Step
+abbrev pub drop_in : LogRow → LogRow → Option Step
 drop_in words (what ∷ which ∷ rest) =
     if bytes_eq what (codes "place") then drop_place_of (number_in which) (place_rule_in rest)
     else if bytes_eq what (codes "dummy")
@@ -167,7 +167,7 @@ drop_in words (what ∷ which ∷ rest) =
 drop_in words row = None
 
 -- the step of these words
-abbrev pub step_in : Row → Row → Option Step
+abbrev pub step_in : LogRow → LogRow → Option Step
 step_in words [] = None
 step_in words (w ∷ rest) =
     if bytes_eq w (codes "contract") then contract_in words rest
@@ -187,14 +187,14 @@ with_step log None = None
 with_step log (Some s) = Some (record log { steps = log.steps ++ s ∷ [] })
 
 -- the log with what a line of these words tells, of all transitions' words
-abbrev pub with_row : NetLists → Row → Log → Row → Option Log
+abbrev pub with_row : NetLists → LogRow → Log → LogRow → Option Log
 with_row n words log [] = None
 with_row n words log (w ∷ rest) =
     if bytes_eq w (codes "restore") then with_restore log (restore_in n words rest)
     else with_step log (step_in words (w ∷ rest))
 
 -- nothing stands after the last line
-abbrev pub is_over : Row → Bool
+abbrev pub is_over : LogRow → Bool
 is_over ([] ∷ []) = true
 is_over more = false
 
@@ -206,7 +206,7 @@ or_bad number (Some log) later = later
 -- The log of these pieces of a text, after what the lines before them told, or the number of the
 -- first line that isn't of the form. The pieces are numbered from this one on; the last one is no
 -- whole line.
-abbrev pub log_after : NetLists → ℕ → Log → Row → Result Log ℕ
+abbrev pub log_after : NetLists → ℕ → Log → LogRow → Result Log ℕ
 log_after n number log [] = Err number
 log_after n number log (line ∷ []) = Err number
 log_after n number log (line ∷ next ∷ more) =

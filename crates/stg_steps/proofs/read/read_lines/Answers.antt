@@ -1,9 +1,6 @@
-use Rattle.std.proofs.Common.{rules, ◌≡◌, ◌∙◌, ◌<◌, ◌≤◌, ℕ, true, false, List, [], codes, length, Option, Some, None, ap, sym, subst, arith}
-use Rattle.std.specs.Str.{bytes_eq}
+use Rattle.std.proofs.Common.{rules, ◌≡◌, ◌∙◌, ◌<◌, ℕ, true, false, List, length, ap, sym, arith}
 use Rattle.std.proofs.lemmas.Bool.{not-true, not-false}
-use Rattle.stg_net.specs.Net.{NetLists}
-use Rattle.stg_steps.specs.LogText.{Row}
-use Rattle.stg_steps.specs.inner.Reading.{log_in, with_row, trans_words, pieces}
+use Rattle.stg_steps.specs.inner.Reading.{with_row, trans_words, pieces}
 use Rattle.stg_steps.proofs.ReadSteps.{ends_after, cut_off, ends_here, goes_past, tells_nothing, goes_on, none_left, takes_none, takes_some}
 use Rattle.stg_steps.proofs.read.read_lines.Goals as goal
 
