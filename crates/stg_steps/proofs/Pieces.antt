@@ -1,9 +1,9 @@
 -- The first piece of bytes, and those after it.
 use Rattle.std.proofs.Common.{◌≡◌, ◌<◌, ◌+◌, ◌==◌, ℕ, suc, Bool, true, false, cond, List, [], ◌∷◌, ◌++◌, ◌≤◌, not, length, take, drop, take_all, append_assoc, append-nil, refl, sym, ap, ◌∙◌, arith, inl, inr}
 use Rattle.std.proofs.lemmas.Bool.{cases_Bool, false≢true, and_parts, and_from, not-true, eqb-true, eq-eqb}
-use Rattle.std.specs.List.{list_all}
+use Rattle.std.specs.List.{list_all, position_or_len}
 use Rattle.astg_lex.proofs.ListLemmas.{drop-none, all-append}
-use Rattle.stg_steps.specs.inner.Reading.{pieces, piece_length, with_front}
+use Rattle.stg_steps.specs.inner.Reading.{pieces, with_front}
 use Rattle.stg_steps.specs.LogText.{LogRow, spaced, line_of}
 use Rattle.stg_steps.proofs.Gaps.{lacks}
 
@@ -13,11 +13,15 @@ stops c b bs k = ap (λ s. cond s ([] ∷ pieces c bs) (with_front b (pieces c b
 goes : (c b : ℕ) (bs : List ℕ) → (b == c) ≡ false → pieces c (b ∷ bs) ≡ with_front b (pieces c bs)
 goes c b bs k = ap (λ s. cond s ([] ∷ pieces c bs) (with_front b (pieces c bs))) k
 
-no_length : (c b : ℕ) (bs : List ℕ) → (b == c) ≡ true → piece_length c (b ∷ bs) ≡ 0
-no_length c b bs k = ap (λ s. cond s 0 (suc (piece_length c bs))) k
+-- how many bytes stand before the first c
+abbrev pub piece_length : ℕ → List ℕ → ℕ
+piece_length c bs = position_or_len (λ b. b == c) bs
 
-more_length : (c b : ℕ) (bs : List ℕ) → (b == c) ≡ false → piece_length c (b ∷ bs) ≡ suc (piece_length c bs)
-more_length c b bs k = ap (λ s. cond s 0 (suc (piece_length c bs))) k
+pub no_length : (c b : ℕ) (bs : List ℕ) → (b == c) ≡ true → piece_length c (b ∷ bs) ≡ 0
+no_length c b bs k = ap {B = ℕ} (λ s. cond (not s) (1 + piece_length c bs) 0) k
+
+pub more_length : (c b : ℕ) (bs : List ℕ) → (b == c) ≡ false → piece_length c (b ∷ bs) ≡ suc (piece_length c bs)
+more_length c b bs k = ap {B = ℕ} (λ s. cond (not s) (1 + piece_length c bs) 0) k ∙ (let e : 1 + piece_length c bs ≡ suc (piece_length c bs) = omega arith in e)
 
 -- where no byte is the stop there is one piece
 pub pieces-last : (c : ℕ) (bs : List ℕ) → piece_length c bs ≡ length bs → pieces c bs ≡ bs ∷ []

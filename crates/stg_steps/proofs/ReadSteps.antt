@@ -9,10 +9,10 @@ use Rattle.stg_net.specs.Net.{NetLists}
 use Rattle.stg_steps.specs.declared.log.Log.{Log}
 use Rattle.stg_steps.specs.LogText.{LogRow, word_at}
 use Rattle.stg_net.specs.Ordered.{listed_below}
-use Rattle.stg_steps.specs.inner.Reading.{pieces, piece_length, with_front, trans_words, with_row, is_over, or_bad, log_after, log_in}
+use Rattle.stg_steps.specs.inner.Reading.{pieces, with_front, trans_words, with_row, is_over, or_bad, log_after, log_in}
 use Rattle.stg_steps.specs.inner.Taking.{TakesLine}
 use Rattle.stg_steps.proofs.FirstLines.{line_ends-more, line_ends-same}
-use Rattle.stg_steps.proofs.Pieces.{has_front, pieces_front, pieces-last, pieces-first}
+use Rattle.stg_steps.proofs.Pieces.{piece_length, no_length, more_length, has_front, pieces_front, pieces-last, pieces-first}
 
 not_over-front : (b : ℕ) (ws : LogRow) → is_over (with_front b ws) ≡ false
 not_over-front b [] = refl
@@ -40,11 +40,10 @@ ends_first [] lt = absurd (omega (arith, lt))
 ends_first (b ∷ bs) lt = elim (cases_Bool (b == 10)) [
   | inl k ↦
       line_ends-more b bs k ∙ ap (λ xs. line_ends xs + 1) (sym (drop-none bs))
-      ∙ sym (ap (λ s. line_ends (drop (suc (cond s 0 (suc (piece_length 10 bs)))) (b ∷ bs)) + 1) k)
+      ∙ sym (ap (λ m. line_ends (drop (suc m) (b ∷ bs)) + 1) (no_length 10 b bs k))
   | inr k ↦
-      let longer : piece_length 10 (b ∷ bs) ≡ suc (piece_length 10 bs) = ap (λ s. cond s 0 (suc (piece_length 10 bs))) k in
-      line_ends-same b bs k ∙ ends_first bs (omega (arith, lt, longer))
-      ∙ sym (ap (λ s. line_ends (drop (suc (cond s 0 (suc (piece_length 10 bs)))) (b ∷ bs)) + 1) k)
+      let longer = more_length 10 b bs k in
+      line_ends-same b bs k ∙ ends_first bs (omega (arith, lt, longer)) ∙ sym (ap (λ m. line_ends (drop (suc m) (b ∷ bs)) + 1) longer)
 ]
 
 pub ends_after : (bs next : List ℕ) (k : ℕ) → k ≡ piece_length 10 bs → k < length bs → next ≡ drop (k + 1) bs → line_ends bs ≡ line_ends next + 1

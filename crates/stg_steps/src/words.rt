@@ -1,6 +1,6 @@
 //! The words of a log's lines.
 
-ghost use Rattle.std.specs.Prelude.{◌≡◌, ◌≤◌, ◌<◌, ◌+◌, ◌^◌, [], ◌∷◌, ◌++◌, true, length, map, take, drop, IfOk, IfSome, OnOk, None};
+ghost use Rattle.std.specs.Prelude.{◌≡◌, ◌==◌, ◌≤◌, ◌<◌, ◌+◌, ◌^◌, [], ◌∷◌, ◌++◌, true, length, map, take, drop, IfOk, IfSome, OnOk, None};
 ghost use Rattle.std.specs.List.{list_all, position_or_len};
 ghost use Rattle.stg_net.specs.Names as forms;
 ghost use Rattle.stg_net.specs.Names.{IsWellNamed};
@@ -14,15 +14,10 @@ use stg_net::{Net, NoMemory, Seq, Text, trans_text};
 
 /// How many bytes stand before the first of that kind.
 pub(crate) fn piece_length(bytes: &[u8], stop: u8) -> usize
-    ensures value { result ≡ reading.piece_length stop bytes.now }
+    ensures value { result ≡ position_or_len (λ b. b == stop) bytes.now }
     ensures most { result ≤ length bytes.now }
 {
-    for (i, b) in bytes.iter().enumerate() {
-        if *b == stop {
-            return i;
-        }
-    }
-    bytes.len()
+    bytes.iter().take_while(|b| **b != stop).count()
 }
 
 /// The first bytes.

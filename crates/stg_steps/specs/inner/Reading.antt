@@ -28,11 +28,6 @@ abbrev pub pieces : ℕ → List ℕ → LogRow
 pieces c [] = [] ∷ []
 pieces c (b ∷ bs) = if b == c then [] ∷ pieces c bs else with_front b (pieces c bs)
 
--- how many bytes stand before the first c
-abbrev pub piece_length : ℕ → List ℕ → ℕ
-piece_length c [] = 0
-piece_length c (b ∷ bs) = if b == c then 0 else suc (piece_length c bs)
-
 -- the value of digits after others whose number is n
 abbrev pub value_behind : ℕ → List ℕ → ℕ
 value_behind n [] = n
