@@ -22,7 +22,7 @@ fn take_restore(log: &mut Log, found: Option<Restore>) -> Result<bool, NoMemory>
     match found {
         None => Ok(false),
         Some(restore) => {
-            if 1 <= log.steps.len() {
+            if !log.steps.is_empty() {
                 return Ok(false);
             }
             log.restored.push(restore)?;
@@ -109,8 +109,7 @@ fn read_lines(alloc: Global, net: &Net, words: &TransWords, text: &[u8]) -> Resu
         let line = before(rest, count);
         let next = after(rest, count);
         if is_end(line) {
-            let left = next.len();
-            if left == 0 {
+            if next.is_empty() {
                 return Ok(log);
             }
             return Err(StepError::BadLine { line: number + 1 });

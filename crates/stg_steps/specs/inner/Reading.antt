@@ -1,5 +1,5 @@
 -- How a log is read: what each line tells, and the first line that tells nothing.
-use Rattle.std.specs.Prelude.{ℕ, Bool, true, false, not, ◌&&◌, ◌==◌, ◌+◌, ◌*◌, ◌-◌, unwrap_or, nat_le, suc, List, [], ◌∷◌, ◌++◌, codes, length, position, Option, Some, None, option_map, Result, Ok, Err, if◌then◌else◌}
+use Rattle.std.specs.Prelude.{ℕ, Bool, true, false, not, ◌&&◌, ◌==◌, ◌+◌, ◌*◌, ◌-◌, unwrap_or, nat_le, List, [], ◌∷◌, ◌++◌, codes, length, position, Option, Some, None, option_map, Result, Ok, Err, if◌then◌else◌}
 use Rattle.std.specs.Str.{bytes_eq}
 use Rattle.std.specs.List.{list_all}
 use Rattle.stg_net.specs.Names.{is_digit}

@@ -1,5 +1,5 @@
 use Rattle.std.proofs.Common.{rules, ◌≡◌, ◌∙◌, ◌<◌, ℕ, true, false, List, length, ap, sym, arith}
-use Rattle.std.proofs.lemmas.Bool.{not-true, not-false}
+use Rattle.std.proofs.lemmas.Bool.{not-true, not-false, eqb-true, eq-eqb, false≢true}
 use Rattle.stg_steps.specs.inner.Reading.{with_row, trans_words, pieces}
 use Rattle.stg_steps.proofs.ReadSteps.{ends_after, cut_off, ends_here, goes_past, tells_nothing, goes_on, none_left, takes_none, takes_some}
 use Rattle.stg_steps.proofs.read.read_lines.Goals as goal
@@ -8,18 +8,18 @@ pub returns-then-rest-count-clause-bad_line : goal.returns-then-rest-count-claus
 returns-then-rest-count-clause-bad_line c =
     cut_off c.args.net.now c.args.text.now c.loop-rest.number c.loop-rest.log c.loop-rest.rest.now c.loop-rest.invariant c.piece_length-count.result c.piece_length-count.ensures.value c.piece_length-count.ensures.most (omega (arith, c.if-rest-count.true))
 
-pub returns-then-left-eq0-clause-ok : goal.returns-then-left-eq0-clause-ok
-returns-then-left-eq0-clause-ok c =
+pub returns-then-is_empty-clause-ok : goal.returns-then-is_empty-clause-ok
+returns-then-is_empty-clause-ok c =
     let next = c.after-next.result.now in
     ends_here c.args.net.now c.args.text.now c.loop-rest.number c.loop-rest.log c.loop-rest.rest.now c.loop-rest.invariant c.piece_length-count.result c.piece_length-count.ensures.value
-    c.before-line.result.now next (omega (arith, c.if-rest-count.false)) c.before-line.ensures c.after-next.ensures (sym c.is_end.ensures ∙ c.if-is_end.true) (none_left next (omega (arith, c.if-left-eq0.true)))
+    c.before-line.result.now next (omega (arith, c.if-rest-count.false)) c.before-line.ensures c.after-next.ensures (sym c.is_end.ensures ∙ c.if-is_end.true) (none_left next (eqb-true (length next) 0 (sym c.is_empty.ensures ∙ c.if-is_empty.true)))
 
 pub returns-then-is_end-clause-bad_line : goal.returns-then-is_end-clause-bad_line
 returns-then-is_end-clause-bad_line c =
     let next = c.after-next.result.now in
     goes_past c.args.net.now c.args.text.now c.loop-rest.number c.loop-rest.log c.loop-rest.rest.now c.loop-rest.invariant c.piece_length-count.result c.piece_length-count.ensures.value
     c.before-line.result.now next (omega (arith, c.if-rest-count.false)) c.before-line.ensures c.after-next.ensures (sym c.is_end.ensures ∙ c.if-is_end.true)
-    (λ h. let z : length next ≡ 0 = ap (λ (xs : List ℕ). length xs) h in absurd (omega (arith, z, c.if-left-eq0.false)))
+    (λ e. absurd (false≢true (sym c.if-is_empty.false ∙ c.is_empty.ensures ∙ eq-eqb (length next) 0 (ap (λ (xs : List ℕ). length xs) e))))
 
 pub returns-then-not-taken-clause-bad_line : goal.returns-then-not-taken-clause-bad_line
 returns-then-not-taken-clause-bad_line c =
