@@ -1,0 +1,5 @@
+pub mod Claims
+pub mod Seats
+pub mod Parts
+pub mod Drawing
+pub mod inner
