@@ -9,12 +9,12 @@ use Rattle.stg_net.specs.declared.no_memory.NoMemory.{NoMemory}
 use Rattle.stg_laws.specs.PlainGroups.{Group}
 use Rattle.stg_derive.specs.declared.part.Part.{Part}
 use Rattle.stg_crew.specs.declared.crew.Worker.{Worker as ThisWorker}
-use Rattle.stg_crew.specs.declared.kind.Kind.TheVariants.{Collecting}
-use Rattle.stg_crew.specs.declared.view.View.{View}
+use Rattle.stg_crew.specs.declared.kind.SeatKind.TheVariants.{Collecting}
+use Rattle.stg_crew.specs.declared.view.SeatView.{SeatView}
 use Rattle.stg_crew.specs.declared.worker.Drawn.{Drawn}
 use Rattle.stg_crew.specs.Claims.{total, times, count_past, view, joined_to, AreGroups, HasEachBelow}
 use Rattle.stg_crew.specs.Drawing.{IsDrawnPart, HasDrawn, groups_of}
-use Rattle.stg_crew.specs.inner.Crew.{AreTakenIn, HasParts}
+use Rattle.stg_crew.specs.inner.Crew.{AreTakenIn, HasDrawnParts}
 use Rattle.stg_crew.specs.inner.Slots.{placed}
 use Rattle.stg_crew.proofs.EachBelow.{only, only_other, sums_below}
 use Rattle.stg_crew.proofs.Placing.{AreRight, placed_full, placed_right, placed-length, empty_right}
@@ -44,9 +44,9 @@ groups-append : (a b : List Drawn) → groups_of (a ++ b) ≡ groups_of a ++ gro
 groups-append a b = map-append (λ (d : Drawn). d.group) a b
 
 -- one more worker
-pub more_taken : (workers : List ThisWorker) (first slots : List (Option Part)) (count : ℕ) (v : View) (w : ThisWorker) (more : List Drawn) (u : View)
+pub more_taken : (workers : List ThisWorker) (first slots : List (Option Part)) (count : ℕ) (v : SeatView) (w : ThisWorker) (more : List Drawn) (u : SeatView)
     → AreTakenIn workers first slots count v → w.drawn ≡ Ok more → HasDrawn (length first) more u.list
-    → ((n : NetLists) (groups : List Group) → All (HasParts n groups) workers → HasParts n groups w)
+    → ((n : NetLists) (groups : List Group) → All (HasDrawnParts n groups) workers → HasDrawnParts n groups w)
     → AreTakenIn workers first (placed slots more) (count + 1) (joined_to v u)
 more_taken workers first slots count v w more u t done h parts = record {
   all = t.all ++ more;
@@ -90,7 +90,7 @@ no_over g k (x ∷ xs) lt e = by (nat_le g x) refl (past_le g xs) (no_over g k x
         omega (arith, only_other k x differ, rest (omega (arith, q)))
     by false p le rest q = absurd (omega (arith, le, q))
 
-module _ (workers : List ThisWorker) (first slots : List (Option Part)) (count draws : ℕ) (v : View)
+module _ (workers : List ThisWorker) (first slots : List (Option Part)) (count draws : ℕ) (v : SeatView)
     (t : AreTakenIn workers first slots count v) (some : 0 < count) (each : HasEachBelow draws v.list) where
   -- of all draws, one for each worker is past the groups
   pub draws_are : draws ≡ length first + count
@@ -117,8 +117,8 @@ module _ (workers : List ThisWorker) (first slots : List (Option Part)) (count d
       subst (λ (o : Option Part). IsSome o) (get_or_default slots k None d there) full
 
 -- the parts of a crew that began with empty slots are right
-pub taken_right : (workers : List ThisWorker) (slots : List (Option Part)) (count : ℕ) (v : View) (n : NetLists) (groups : List Group)
-    → AreTakenIn workers (replicate (length groups) None) slots count v → All (HasParts n groups) workers → AreRight n groups slots
+pub taken_right : (workers : List ThisWorker) (slots : List (Option Part)) (count : ℕ) (v : SeatView) (n : NetLists) (groups : List Group)
+    → AreTakenIn workers (replicate (length groups) None) slots count v → All (HasDrawnParts n groups) workers → AreRight n groups slots
 taken_right workers slots count v n groups t every =
     subst (AreRight n groups) (sym t.slots_are)
     (placed_right n groups (replicate (length groups) None) t.all (length-replicate (length groups) None) (t.parts n groups every) (empty_right n groups (length groups)))

@@ -6,3 +6,4 @@ pub mod Tables
 pub mod Drawings
 pub mod Placing
 pub mod Gathering
+pub mod GroupRanges

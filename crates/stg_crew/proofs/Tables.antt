@@ -6,8 +6,8 @@ use Rattle.std.proofs.Math.Nat.{mod-eq_of_lt}
 use mathlib.Core.Option.{Option, some, some-injective, some-ne-none}
 use lib.ListN.{get_elem?}
 use Rattle.atomic_table.specs.Table.{State, Me, Allows, Splits, Joins, Final, Seen, keeps, opening}
-use Rattle.stg_crew.specs.declared.view.View.{View}
-use Rattle.stg_crew.specs.declared.kind.Kind.TheVariants.{Collecting, Worker}
+use Rattle.stg_crew.specs.declared.view.SeatView.{SeatView}
+use Rattle.stg_crew.specs.declared.kind.SeatKind.TheVariants.{Collecting, Worker}
 use Rattle.stg_crew.specs.Claims.{collecting, worker, spent, AreGroups, AreClaims, IsClaims, HasEachBelow, drawn, with_groups, split_from, joined_to}
 use Rattle.stg_crew.proofs.EachBelow.{each_below}
 use Rattle.stg_crew.proofs.Steps.{first_holds, few_draws, older, draw_holds, split_holds, set_holds, join_holds, closed}
@@ -17,18 +17,18 @@ use Rattle.stg_crew.proofs.Sums.{below, set_else}
 abbrev S : Type 0
 S = Unit {0}
 
-of_holds : (ws : List ℕ) (homes : List (Option S)) (views : List View) (a b : ℕ) → length ws ≡ 2 → slice_index ws 0 ≡ a → slice_index ws 1 ≡ b → AreSummed a b views
+of_holds : (ws : List ℕ) (homes : List (Option S)) (views : List SeatView) (a b : ℕ) → length ws ≡ 2 → slice_index ws 0 ≡ a → slice_index ws 1 ≡ b → AreSummed a b views
     → IsClaims (record { words = ws; homes = homes; views = views })
 of_holds ws homes views a b wide e f h = record { words = wide; claims = subst (λ x. AreClaims x (slice_index ws 1) views) (sym e) (subst (λ y. AreClaims a y views) (sym f) (claims a b views h)) }
 
 -- the rule by sums, of the table's words
-of_claims : (s : State S View) → IsClaims s → AreSummed (slice_index s.words 0) (slice_index s.words 1) s.views
+of_claims : (s : State S SeatView) → IsClaims s → AreSummed (slice_index s.words 0) (slice_index s.words 1) s.views
 of_claims s h = summed (slice_index s.words 0) (slice_index s.words 1) s.views h.claims
 
 pub opens : IsClaims (opening (0 ∷ 0 ∷ []) [] (collecting 0))
 opens = record { words = refl; claims = claims 0 0 (collecting 0 ∷ []) first_holds }
 
-pub draw_allowed : (slots id : ℕ) (me : Me S View) → me.0.kind ≡ Worker → AreGroups me.0.groups me.0.list
+pub draw_allowed : (slots id : ℕ) (me : Me S SeatView) → me.0.kind ≡ Worker → AreGroups me.0.groups me.0.list
     → Allows IsClaims slots id me 0 (λ n. (n + 1) % 2 ^ 64) (λ n after. (after.0 ≡ drawn n me.0) × (after.1 ≡ me.1) × (n < 2 ^ 32) × All (λ x. x < n) me.0.list)
 draw_allowed slots id me is goes s h sized here fits =
     let n : ℕ = slice_index s.words 0 in
@@ -50,11 +50,11 @@ draw_allowed slots id me is goes s h sized here fits =
       (refl, refl, lt, above),
     )
 
-pub set_allowed : (slots id : ℕ) (me : Me S View) (g : ℕ) → me.0 ≡ collecting 0 → g ≤ 250
+pub set_allowed : (slots id : ℕ) (me : Me S SeatView) (g : ℕ) → me.0 ≡ collecting 0 → g ≤ 250
     → Allows IsClaims slots id me 1 (λ n. (n + g) % 2 ^ 64) (λ n after. (after.0 ≡ with_groups g me.0) × (after.1 ≡ me.1))
 set_allowed slots id me g is few s h sized here fits =
     let n : ℕ = slice_index s.words 1 in
-    let done = set_holds (slice_index s.words 0) n s.views (of_claims s h) id me.0 here g (ap (λ (v : View). v.kind) is) (ap (λ (v : View). v.split) is) (ap (λ (v : View). v.groups) is) (ap (λ (v : View). v.list) is) few in
+    let done = set_holds (slice_index s.words 0) n s.views (of_claims s h) id me.0 here g (ap (λ (v : SeatView). v.kind) is) (ap (λ (v : SeatView). v.split) is) (ap (λ (v : SeatView). v.groups) is) (ap (λ (v : SeatView). v.list) is) few in
     let none : n ≡ 0 = done.0 in
     let small : n + g < 2 ^ 64 = omega (arith, few, none) in
     let next : (n + g) % 2 ^ 64 ≡ g = mod-eq_of_lt small ∙ omega (arith, none) in
@@ -70,10 +70,10 @@ set_allowed slots id me g is few s h sized here fits =
       (refl, refl),
     )
 
-pub split_allowed : (id : ℕ) (v : View) → v.kind ≡ Collecting → v.split < 64 → Splits {S = S} IsClaims id v (split_from v) (worker v.groups)
+pub split_allowed : (id : ℕ) (v : SeatView) → v.kind ≡ Collecting → v.split < 64 → Splits {S = S} IsClaims id v (split_from v) (worker v.groups)
 split_allowed id v is room s h here = record { words = h.words; claims = claims (slice_index s.words 0) (slice_index s.words 1) (set s.views id (split_from v) ++ worker v.groups ∷ []) (split_holds (slice_index s.words 0) (slice_index s.words 1) s.views (of_claims s h) id v here is room) }
 
-pub join_allowed : (id : ℕ) (v : View) (other : ℕ) (w : View) → v.kind ≡ Collecting → w.kind ≡ Worker → Joins {S = S} IsClaims id v other w (joined_to v w) spent
+pub join_allowed : (id : ℕ) (v : SeatView) (other : ℕ) (w : SeatView) → v.kind ≡ Collecting → w.kind ≡ Worker → Joins {S = S} IsClaims id v other w (joined_to v w) spent
 join_allowed id v other w is drew s h here apart there = record { words = h.words; claims = claims (slice_index s.words 0) (slice_index s.words 1) (set (set s.views id (joined_to v w)) other spent) (join_holds (slice_index s.words 0) (slice_index s.words 1) s.views (of_claims s h) id v here other w apart (was there) is drew) }
   where
     was : get_elem? (slice_set s.views id (joined_to v w)) other ≡ some w → get_elem? s.views other ≡ some w
@@ -86,7 +86,7 @@ at_index [] i a e = absurd (some-ne-none a (sym e))
 at_index (x ∷ xs) zero a e = some-injective x a e
 at_index (x ∷ xs) (suc i) a e = at_index xs i a e
 
-module _ (id : ℕ) (v : View) (ws : List ℕ) (xs : List S) (n : ℕ) (end : Final (Seen IsClaims id v) ws xs) (first : get_elem? ws 0 ≡ some n) (is : v.kind ≡ Collecting) where
+module _ (id : ℕ) (v : SeatView) (ws : List ℕ) (xs : List S) (n : ℕ) (end : Final (Seen IsClaims id v) ws xs) (first : get_elem? ws 0 ≡ some n) (is : v.kind ≡ Collecting) where
   draws_is : slice_index end.0.words 0 ≡ n
   draws_is = at_index end.0.words 0 n (ap (λ l. get_elem? l 0) end.2 ∙ first)
 

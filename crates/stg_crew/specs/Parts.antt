@@ -35,8 +35,8 @@ abbrev pub group_in : List Group → ℕ → Group
 group_in groups i = slice_index_or groups i no_group
 
 -- each group knows signals of the net alone
-abbrev pub AreInRange : NetLists → List Group → Type 0
-AreInRange n groups =
+abbrev pub AreKnownInRange : NetLists → List Group → Type 0
+AreKnownInRange n groups =
     All (λ (group : Group). All (λ s. s < length n.signals) group.known) groups
 
 -- the parts are those of the groups' plain derivations, in the order of the groups

@@ -2,10 +2,10 @@
 use Rattle.std.specs.Prelude.{◌≡◌}
 use Rattle.stg_crew.specs.declared.table.Claims.{Claims}
 use Rattle.stg_crew.specs.declared.table.ClaimSeat.{ClaimSeat}
-use Rattle.stg_crew.specs.declared.view.View.{View}
+use Rattle.stg_crew.specs.declared.view.SeatView.{SeatView}
 
 -- what the seat has seen
-abbrev pub view_of : ClaimSeat → View
+abbrev pub view_of : ClaimSeat → SeatView
 view_of s = s.seat.me.0
 
 -- the seat is one of this table

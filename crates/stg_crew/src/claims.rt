@@ -3,9 +3,9 @@
 ghost use Rattle.std.specs.Prelude.{◌≡◌, ◌<◌, ◌≤◌, [], All, IfOk};
 ghost use Rattle.stg_crew.specs.Claims.{collecting, worker, drawn, split_from, joined_to, AreGroups, HasEachBelow};
 ghost use Rattle.stg_crew.specs.Seats.{view_of, IsOf};
-ghost use Rattle.stg_crew.specs.declared.kind.Kind.TheVariants.{Collecting, Worker};
+ghost use Rattle.stg_crew.specs.declared.kind.SeatKind.TheVariants.{Collecting, Worker};
 
-use crate::rule::{Both, Draw, Part, Set};
+use crate::rule::{Draw, SetGroups, SplitOff, TakeIn};
 use crate::table::{ClaimSeat, Claims};
 use atomic_table::Table;
 use std::alloc::Global;
@@ -42,7 +42,7 @@ pub fn claims_for(alloc: Global, groups: u32) -> Result<ClaimStart, NoMemory>
     let (table, mut seat) = Table::of_words(alloc, &[0, 0], &())?;
     let _none = table
         .shared
-        .fetch_add::<Set>(&mut seat, 1, u64::from(groups));
+        .fetch_add::<SetGroups>(&mut seat, 1, u64::from(groups));
     Ok(ClaimStart {
         claims: Claims { table },
         seat: ClaimSeat { seat },
@@ -60,7 +60,7 @@ pub fn split_claims(claims: &Claims, seat: &mut ClaimSeat) -> ClaimSeat
     ensures kept { IsOf seat.new claims.now }
 {
     ClaimSeat {
-        seat: claims.table.shared.split_seat::<Part>(&mut seat.seat),
+        seat: claims.table.shared.split_seat::<SplitOff>(&mut seat.seat),
     }
 }
 
@@ -87,7 +87,10 @@ pub fn join_claims(claims: &Claims, seat: &mut ClaimSeat, other: ClaimSeat)
     ensures kept { IsOf seat.new claims.now }
 {
     let ClaimSeat { seat: other } = other;
-    claims.table.shared.join_seat::<Both>(&mut seat.seat, other);
+    claims
+        .table
+        .shared
+        .join_seat::<TakeIn>(&mut seat.seat, other);
 }
 
 /// Closes a table once all workers' seats were taken in, and gives the number of draws. Each number

@@ -11,12 +11,12 @@ ghost use Rattle.stg_laws.specs.PlainGroups.{AreClosed};
 ghost use Rattle.stg_laws.specs.Stgs.{stg_of};
 ghost use Rattle.stg_derive.specs.declared.part.Part.{Part as ThisPart};
 ghost use Rattle.stg_derive.specs.Loggable.{IsLoggable};
-ghost use Rattle.stg_crew.specs.declared.kind.Kind.TheVariants as kind;
+ghost use Rattle.stg_crew.specs.declared.kind.SeatKind.TheVariants as kind;
 ghost use Rattle.stg_crew.specs.declared.worker.Drawn.{Drawn as ThisDrawn};
 ghost use Rattle.stg_crew.specs.Claims.{collecting, joined_to, view};
-ghost use Rattle.stg_crew.specs.Parts.{AreInRange, AreDerived};
+ghost use Rattle.stg_crew.specs.Parts.{AreKnownInRange, AreDerived};
 ghost use Rattle.stg_crew.specs.Seats.{view_of, IsOf};
-ghost use Rattle.stg_crew.specs.inner.Crew.{AreDerivable, IsFresh, IsThrough, HasParts, AreTakenIn};
+ghost use Rattle.stg_crew.specs.inner.Crew.{AreDerivable, IsFresh, IsThrough, HasDrawnParts, AreTakenIn};
 ghost use Rattle.stg_crew.specs.inner.Slots.{placed};
 
 use crate::Gate;
@@ -87,7 +87,7 @@ fn send<G: Gate>(
     requires fresh { IsFresh claims.now (length groups.now) worker.old }
     requires derivable { AreDerivable spec.now.net groups.now }
     ensures through { IsThrough claims.now (length groups.now) worker.new }
-    ensures parts { HasParts spec.now.net groups.now worker.new }
+    ensures parts { HasDrawnParts spec.now.net groups.now worker.new }
 {
     worker.drawn = draw_all(alloc, spec, groups, claims, &mut worker.seat, gate);
 }
@@ -106,7 +106,7 @@ fn send_slice<R: Threads + Sync, G: Gate>(
     requires fresh { All (IsFresh claims.now (length groups.now)) workers.old }
     requires derivable { AreDerivable spec.now.net groups.now }
     ensures through { All (IsThrough claims.now (length groups.now)) workers.new }
-    ensures parts { All (HasParts spec.now.net groups.now) workers.new }
+    ensures parts { All (HasDrawnParts spec.now.net groups.now) workers.new }
     ensures count { length workers.new ≡ length workers.old }
 {
     let threads = workers.len();
@@ -118,7 +118,7 @@ fn send_slice<R: Threads + Sync, G: Gate>(
             requires { IsFresh claims.now (length groups.now) worker.now
                 × AreDerivable spec.now.net groups.now }
             ensures { IsThrough claims.entry.now (length groups.entry.now) worker.exit.now
-                × HasParts spec.entry.now.net groups.entry.now worker.exit.now }
+                × HasDrawnParts spec.entry.now.net groups.entry.now worker.exit.now }
         { send(alloc, spec, groups, claims, worker, gate) },
     );
 }
@@ -137,7 +137,7 @@ fn send_all<R: Threads + Sync, G: Gate>(
     requires fresh { All (IsFresh claims.now (length groups.now)) workers.old.items }
     requires derivable { AreDerivable spec.now.net groups.now }
     ensures through { All (IsThrough claims.now (length groups.now)) workers.new.items }
-    ensures parts { All (HasParts spec.now.net groups.now) workers.new.items }
+    ensures parts { All (HasDrawnParts spec.now.net groups.now) workers.new.items }
     ensures count { length workers.new.items ≡ length workers.old.items }
 {
     send_slice(
@@ -215,7 +215,7 @@ pub fn work<R: Threads + Sync, G: Gate>(
     requires workers { (1 ≤ workers) × (workers ≤ 64) }
     requires few { length groups.now ≤ 250 }
     requires within { IsWithin SPEC spec.now.net }
-    requires in_range { AreInRange spec.now.net groups.now }
+    requires in_range { AreKnownInRange spec.now.net groups.now }
     requires closed { AreClosed spec.now.net groups.now }
     requires no_conflict { HasNoAutoConflict (graph_of spec.now.net) }
     ensures parts { IfOk result (λ worked. AreDerived spec.now.net groups.now worked.parts) }

@@ -9,13 +9,15 @@ mod kind;
 mod rule;
 mod slots;
 mod table;
+#[cfg(test)]
+mod tests;
 mod view;
 mod worker;
 
 pub use claims::{ClaimStart, Draws, claims_for, close_claims, draw, join_claims, split_claims};
 pub use crew::{Worked, work};
 pub use gate::{Gate, OpenGate};
-pub use kind::Kind;
+pub use kind::SeatKind;
 pub use table::{ClaimSeat, Claims};
-pub use view::View;
+pub use view::SeatView;
 pub use worker::{Drawn, draw_all};

@@ -3,7 +3,7 @@
 ghost use Rattle.std.specs.Prelude.{◌≡◌, []};
 
 use crate::rule::Claiming;
-use crate::view::View;
+use crate::view::SeatView;
 use atomic_table::{Seat, Table};
 use std::alloc::Global;
 
@@ -11,13 +11,13 @@ use std::alloc::Global;
 /// rule of the claims holds between any two steps.
 #[derive(Drop)]
 pub struct Claims {
-    pub(crate) table: Table<(), View, (), Claiming, Global>,
+    pub(crate) table: Table<(), SeatView, (), Claiming, Global>,
     ghost sized: { (table.shared.table_id.words ≡ 2) × (table.shared.table_id.slots ≡ 0) },
 }
 
 /// A seat of a table of claims. Contracts see it as its view.
 #[derive(Drop)]
 pub struct ClaimSeat {
-    pub(crate) seat: Seat<(), View>,
+    pub(crate) seat: Seat<(), SeatView>,
     ghost empty: { seat.me.1 ≡ [] },
 }

@@ -7,9 +7,9 @@ ghost use Rattle.stg_net.specs.Net.{IsWithin};
 ghost use Rattle.stg_laws.specs.Conflict.{HasNoAutoConflict};
 ghost use Rattle.stg_laws.specs.PlainGroups.{AreClosed};
 ghost use Rattle.stg_crew.specs.Drawing.{HasDrawn, IsDrawnPart};
-ghost use Rattle.stg_crew.specs.Parts.{AreInRange, IsPartOf, group_in};
+ghost use Rattle.stg_crew.specs.Parts.{AreKnownInRange, IsPartOf, group_in};
 ghost use Rattle.stg_crew.specs.Seats.{view_of, IsOf};
-ghost use Rattle.stg_crew.specs.declared.kind.Kind.TheVariants.{Worker};
+ghost use Rattle.stg_crew.specs.declared.kind.SeatKind.TheVariants.{Worker};
 
 use crate::Gate;
 use crate::claims::draw;
@@ -45,7 +45,7 @@ fn derive_drawn<G: Gate>(
     gate: &G,
 ) -> Result<Drawn, NoMemory>
     requires within { IsWithin SPEC spec.now.net }
-    requires in_range { AreInRange spec.now.net groups.now }
+    requires in_range { AreKnownInRange spec.now.net groups.now }
     requires closed { AreClosed spec.now.net groups.now }
     requires no_conflict { HasNoAutoConflict (graph_of spec.now.net) }
     requires there { number < length groups.now }
@@ -79,7 +79,7 @@ pub fn draw_all<G: Gate>(
     requires groups { (view_of seat.old).groups ≡ length groups.now }
     requires few { length groups.now ≤ 250 }
     requires within { IsWithin SPEC spec.now.net }
-    requires in_range { AreInRange spec.now.net groups.now }
+    requires in_range { AreKnownInRange spec.now.net groups.now }
     requires closed { AreClosed spec.now.net groups.now }
     requires no_conflict { HasNoAutoConflict (graph_of spec.now.net) }
     ensures drawn { IfOk result

@@ -7,13 +7,13 @@ use Rattle.stg_laws.specs.Conflict.{HasNoAutoConflict}
 use Rattle.stg_laws.specs.PlainGroups.{Group, AreClosed}
 use Rattle.stg_derive.specs.declared.part.Part.{Part}
 use Rattle.stg_crew.specs.declared.crew.Worker.{Worker as ThisWorker}
-use Rattle.stg_crew.specs.declared.kind.Kind.TheVariants.{Collecting, Worker}
+use Rattle.stg_crew.specs.declared.kind.SeatKind.TheVariants.{Collecting, Worker}
 use Rattle.stg_crew.specs.declared.table.Claims.{Claims}
-use Rattle.stg_crew.specs.declared.view.View.{View}
+use Rattle.stg_crew.specs.declared.view.SeatView.{SeatView}
 use Rattle.stg_crew.specs.declared.worker.Drawn.{Drawn}
 use Rattle.stg_crew.specs.Claims.{AreGroups, count_past, total, worker}
 use Rattle.stg_crew.specs.Drawing.{HasDrawn, IsDrawnPart, groups_of}
-use Rattle.stg_crew.specs.Parts.{AreInRange}
+use Rattle.stg_crew.specs.Parts.{AreKnownInRange}
 use Rattle.stg_crew.specs.Seats.{view_of, IsOf}
 use Rattle.stg_crew.specs.inner.Slots.{placed}
 
@@ -21,7 +21,7 @@ use Rattle.stg_crew.specs.inner.Slots.{placed}
 pub record AreDerivable (n : NetLists) (groups : List Group) : Type 0 where
   pub few : length groups ≤ 250
   pub within : IsWithin SPEC n
-  pub in_range : AreInRange n groups
+  pub in_range : AreKnownInRange n groups
   pub closed : AreClosed n groups
   pub no_conflict : HasNoAutoConflict (graph_of n)
 
@@ -38,15 +38,15 @@ pub record IsThrough (claims : Claims) (groups : ℕ) (w : ThisWorker) : Type 0 
   pub drawn : IfOk w.drawn (λ all. HasDrawn groups all (view_of w.seat).list)
 
 -- the worker's parts are those of their groups
-abbrev pub HasParts : NetLists → List Group → ThisWorker → Type 0
-HasParts n groups w = IfOk w.drawn (All (IsDrawnPart n groups))
+abbrev pub HasDrawnParts : NetLists → List Group → ThisWorker → Type 0
+HasDrawnParts n groups w = IfOk w.drawn (All (IsDrawnPart n groups))
 
 -- The seats of that many of the workers were taken in. The collecting view has the groups that they
 -- drew, whose parts stand in their slots, and one number past the groups for each seat.
 pub record AreTakenIn (workers : List ThisWorker) (first slots : List (Option Part)) (count : ℕ)
-    (v : View) : Type 0 where
+    (v : SeatView) : Type 0 where
   pub all : List Drawn
-  pub parts : (n : NetLists) (groups : List Group) → All (HasParts n groups) workers
+  pub parts : (n : NetLists) (groups : List Group) → All (HasDrawnParts n groups) workers
       → All (IsDrawnPart n groups) all
   pub slots_are : slots ≡ placed first all
   pub are_groups : AreGroups (length first) (groups_of all)

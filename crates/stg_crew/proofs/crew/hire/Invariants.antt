@@ -1,7 +1,7 @@
 use Rattle.std.proofs.Common.{◌≡◌, [], All, length}
 use Rattle.stg_crew.specs.Claims.{view}
 use Rattle.stg_crew.specs.Seats.{view_of, IsOf}
-use Rattle.stg_crew.specs.declared.kind.Kind.TheVariants.{Collecting}
+use Rattle.stg_crew.specs.declared.kind.SeatKind.TheVariants.{Collecting}
 use Rattle.stg_crew.specs.inner.Crew.{IsFresh}
 use Rattle.stg_crew.proofs.crew.hire.Given as goal
 

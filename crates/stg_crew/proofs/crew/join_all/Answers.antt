@@ -3,13 +3,13 @@ use Rattle.stg_net.specs.Net.{NetLists}
 use Rattle.stg_net.specs.declared.no_memory.NoMemory.{NoMemory}
 use Rattle.stg_laws.specs.PlainGroups.{Group}
 use Rattle.stg_derive.specs.declared.part.Part.{Part}
-use Rattle.stg_crew.specs.declared.view.View.{View}
+use Rattle.stg_crew.specs.declared.view.SeatView.{SeatView}
 use Rattle.stg_crew.specs.declared.worker.Drawn.{Drawn}
-use Rattle.stg_crew.specs.declared.kind.Kind.TheVariants.{Collecting}
+use Rattle.stg_crew.specs.declared.kind.SeatKind.TheVariants.{Collecting}
 use Rattle.stg_crew.specs.Claims.{view, joined_to}
 use Rattle.stg_crew.specs.Drawing.{HasDrawn}
 use Rattle.stg_crew.specs.Seats.{view_of}
-use Rattle.stg_crew.specs.inner.Crew.{IsThrough, HasParts, AreTakenIn}
+use Rattle.stg_crew.specs.inner.Crew.{IsThrough, HasDrawnParts, AreTakenIn}
 use Rattle.stg_crew.specs.inner.Slots.{placed}
 use Rattle.stg_crew.proofs.Drawings.{All-last, All-front}
 use Rattle.stg_crew.proofs.Gathering.{none_taken, more_taken}
@@ -26,11 +26,11 @@ loop-worker-init c =
       of = c.requires.of;
       through = c.requires.through;
       parts = λ n groups every. every;
-      taken = subst (λ (v : View). AreTakenIn hired first first (length hired - length hired) v) (sym start)
+      taken = subst (λ (v : SeatView). AreTakenIn hired first first (length hired - length hired) v) (sym start)
           (subst (λ k. AreTakenIn hired first first k (view Collecting [] (length hired) 0 (length first))) none (none_taken hired first (length hired) (length first)));
       long = refl;
       less = omega arith;
-      split = ap (λ (v : View). v.split) start;
+      split = ap (λ (v : SeatView). v.split) start;
     }
 
 pub loop-worker-preserved : goal.loop-worker-preserved
@@ -50,19 +50,19 @@ loop-worker-preserved c =
     let is_through : IsThrough c.args.claims.now (length first) w = All-last (IsThrough c.args.claims.now (length first)) rest w through in
     let drew : HasDrawn (length first) put.0 (view_of w.seat).list =
     subst (λ (r : Result (List Drawn) NoMemory). IfOk r (λ ds. HasDrawn (length first) ds (view_of w.seat).list)) put.1 is_through.drawn in
-    let parts : (n : NetLists) (groups : List Group) → All (HasParts n groups) hired → All (HasParts n groups) (rest ++ w ∷ []) =
-    λ n groups every. subst (All (HasParts n groups)) popped (before.parts n groups every) in
-    let after : View = joined_to (view_of c.loop-worker.seat) (view_of w.seat) in
+    let parts : (n : NetLists) (groups : List Group) → All (HasDrawnParts n groups) hired → All (HasDrawnParts n groups) (rest ++ w ∷ []) =
+    λ n groups every. subst (All (HasDrawnParts n groups)) popped (before.parts n groups every) in
+    let after : SeatView = joined_to (view_of c.loop-worker.seat) (view_of w.seat) in
     let more = more_taken hired first c.loop-worker.slots.items count (view_of c.loop-worker.seat) w put.0 (view_of w.seat) before.taken put.1 drew
-    (λ n groups every. All-last (HasParts n groups) rest w (parts n groups every)) in
+    (λ n groups every. All-last (HasDrawnParts n groups) rest w (parts n groups every)) in
     record {
       of = c.join_one.ensures.kept;
       through = All-front (IsThrough c.args.claims.now (length first)) rest (w ∷ []) through;
-      parts = λ n groups every. All-front (HasParts n groups) rest (w ∷ []) (parts n groups every);
-      taken = subst (λ (v : View). AreTakenIn hired first c.join_one.new.slots.items (length hired - length rest) v) (sym joined)
+      parts = λ n groups every. All-front (HasDrawnParts n groups) rest (w ∷ []) (parts n groups every);
+      taken = subst (λ (v : SeatView). AreTakenIn hired first c.join_one.new.slots.items (length hired - length rest) v) (sym joined)
           (subst (λ (s : List (Option Part)). AreTakenIn hired first s (length hired - length rest) after) (sym put.2)
           (subst (λ k. AreTakenIn hired first (placed c.loop-worker.slots.items put.0) k after) one_more more));
       long = ap (λ (s : List (Option Part)). length s) put.2 ∙ placed-length c.loop-worker.slots.items put.0 ∙ before.long;
       less = omega (arith, shorter, before.less);
-      split = ap (λ (v : View). v.split) joined ∙ before.split;
+      split = ap (λ (v : SeatView). v.split) joined ∙ before.split;
     }

@@ -3,7 +3,7 @@ use Rattle.stg_crew.specs.Claims.{AreGroups}
 use Rattle.stg_crew.specs.Drawing.{IsDrawnPart, groups_of}
 use Rattle.stg_crew.specs.Parts.{IsPartOf, group_in}
 use Rattle.stg_crew.specs.Seats.{view_of}
-use Rattle.stg_crew.specs.declared.view.View.{View}
+use Rattle.stg_crew.specs.declared.view.SeatView.{SeatView}
 use Rattle.stg_crew.specs.declared.worker.Drawn.{Drawn}
 use Rattle.stg_crew.proofs.Drawings.{groups-more, All-more, last_below}
 use Rattle.stg_crew.proofs.worker.draw_all.Goals as goal
@@ -15,9 +15,9 @@ loop-number-init g c =
     let none = c.new-all.ensures in
     record {
       of = c.draw-number.ensures.kept;
-      worker = ap (λ (v : View). v.kind) ok ∙ c.requires.worker;
-      groups = ap (λ (v : View). v.groups) ok ∙ c.requires.groups;
-      list = ap (λ (v : View). v.list) ok ∙ ap (λ (l : List ℕ). l ++ r ∷ []) c.requires.nothing ∙ sym (ap (λ (ds : List Drawn). groups_of ds ++ r ∷ []) none);
+      worker = ap (λ (v : SeatView). v.kind) ok ∙ c.requires.worker;
+      groups = ap (λ (v : SeatView). v.groups) ok ∙ c.requires.groups;
+      list = ap (λ (v : SeatView). v.list) ok ∙ ap (λ (l : List ℕ). l ++ r ∷ []) c.requires.nothing ∙ sym (ap (λ (ds : List Drawn). groups_of ds ++ r ∷ []) none);
       are_groups = subst (λ (ds : List Drawn). AreGroups (length c.args.groups.now) (groups_of ds)) (sym none) (λ k d l. absurd (omega (arith, l)));
       parts = subst (All (IsDrawnPart c.args.spec.now.net c.args.groups.now)) (sym none) (λ k d l. absurd (omega (arith, l)));
     }
@@ -26,7 +26,8 @@ pub draw-number-requires-in-loop-number-clause-goes_on : goal.draw-number-requir
 draw-number-requires-in-loop-number-clause-goes_on g c =
     let before = c.loop-number.invariant in
     let count = length c.args.groups.now in
-    let below = All-more (λ k. k < count) (groups_of c.loop-number.all) c.loop-number.number before.are_groups c.loop-number-test.true in
+    let low : c.loop-number.number < count = omega (arith, c.loop-number-test.true) in
+    let below = All-more (λ k. k < count) (groups_of c.loop-number.all) c.loop-number.number before.are_groups low in
     subst (λ k. AreGroups k (view_of c.loop-number.seat).list) (sym before.groups) (subst (AreGroups count) (sym before.list) below)
 
 pub loop-number-smaller : goal.loop-number-smaller
@@ -54,9 +55,9 @@ loop-number-preserved g c =
     let part : IsPartOf n (group_in groups d.group) d.part = subst (λ k. IsPartOf n (group_in groups k) d.part) (sym same) c.in_ok-drawn.ensures.part in
     record {
       of = c.draw-number-in-loop-number.ensures.kept;
-      worker = ap (λ (v : View). v.kind) ok ∙ before.worker;
-      groups = ap (λ (v : View). v.groups) ok ∙ before.groups;
-      list = ap (λ (v : View). v.list) ok ∙ ap (λ (l : List ℕ). l ++ r ∷ []) (before.list ∙ sym drew);
-      are_groups = subst (AreGroups (length groups)) (sym drew) (All-more (λ k. k < length groups) (groups_of all) number before.are_groups c.loop-number-test.true);
+      worker = ap (λ (v : SeatView). v.kind) ok ∙ before.worker;
+      groups = ap (λ (v : SeatView). v.groups) ok ∙ before.groups;
+      list = ap (λ (v : SeatView). v.list) ok ∙ ap (λ (l : List ℕ). l ++ r ∷ []) (before.list ∙ sym drew);
+      are_groups = subst (AreGroups (length groups)) (sym drew) (All-more (λ k. k < length groups) (groups_of all) number before.are_groups (omega (arith, c.loop-number-test.true)));
       parts = subst (All (IsDrawnPart n groups)) (sym pushed) (All-more (IsDrawnPart n groups) all d before.parts (record { there = there; part = part }));
     }

@@ -2,7 +2,7 @@ use Rattle.std.proofs.Common.{◌≡◌, ◌++◌, ◌∷◌, [], ◌-◌, All, 
 use Rattle.stg_crew.specs.Claims.{AreGroups}
 use Rattle.stg_crew.specs.Drawing.{IsDrawnPart, groups_of}
 use Rattle.stg_crew.specs.Seats.{view_of, IsOf}
-use Rattle.stg_crew.specs.declared.kind.Kind.TheVariants.{Worker}
+use Rattle.stg_crew.specs.declared.kind.SeatKind.TheVariants.{Worker}
 use Rattle.stg_crew.proofs.worker.draw_all.Given as goal
 
 abbrev pub decreases-loop-number : goal.decreases-loop-number
