@@ -7,3 +7,4 @@ pub mod Drawings
 pub mod Placing
 pub mod Gathering
 pub mod GroupRanges
+pub mod Examples

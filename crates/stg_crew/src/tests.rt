@@ -1,6 +1,6 @@
 //! That workers run beside each other and derive each group once, and what one worker draws.
 
-ghost use Rattle.std.specs.Prelude.{◌≤◌, IfOk, IfSome};
+ghost use Rattle.std.specs.Prelude.{◌≤◌, length, IfOk, IfSome};
 ghost use Rattle.stg_net.specs.declared.limits.TheConstants.Limits.{SPEC};
 ghost use Rattle.stg_net.specs.Net.{IsWithin};
 ghost use Rattle.stg_laws.specs.PlainGroups.{ArePlainGroups, AreClosed};
@@ -39,7 +39,8 @@ fn check_case(spec: Spec, groups: Seq<Group>) -> Option<Case>
     requires within { IsWithin SPEC spec.net }
     requires groups { ArePlainGroups spec.net groups }
     requires closed { AreClosed spec.net groups }
-    ensures { IfSome result (λ case. AreDerivable case.spec.net case.groups) }
+    ensures derivable { IfSome result (λ case. AreDerivable case.spec.net case.groups) }
+    ensures few { IfSome result (λ case. length case.groups ≤ 250) }
 {
     match no_auto_conflict(spec.net()) {
         Ok(()) => {}
@@ -52,7 +53,8 @@ fn check_case(spec: Spec, groups: Seq<Group>) -> Option<Case>
 }
 
 fn read_case(rt: &impl Abort, alloc: Global, text: &[u8]) -> Result<Case, Fail>
-    ensures { IfOk result (λ case. AreDerivable case.spec.net case.groups) }
+    ensures derivable { IfOk result (λ case. AreDerivable case.spec.net case.groups) }
+    ensures few { IfOk result (λ case. length case.groups ≤ 250) }
 {
     let spec = read_spec(alloc, text)?;
     let groups = plain_groups(alloc, &spec)?;
@@ -165,6 +167,7 @@ fn assert_work<R: Abort + Threads + Sync>(
     workers: u32,
 ) -> Result<(), Fail>
     requires workers { (1 ≤ workers) × (workers ≤ 64) }
+    requires few { length case.now.groups ≤ 250 }
     requires derivable { AreDerivable case.now.spec.net case.now.groups }
 {
     let gate = make_counting(alloc, 40)?;

@@ -77,7 +77,6 @@ pub fn draw_all<G: Gate>(
     requires worker { (view_of seat.old).kind ≡ Worker }
     requires nothing { (view_of seat.old).list ≡ [] }
     requires groups { (view_of seat.old).groups ≡ length groups.now }
-    requires few { length groups.now ≤ 250 }
     requires within { IsWithin SPEC spec.now.net }
     requires in_range { AreKnownInRange spec.now.net groups.now }
     requires closed { AreClosed spec.now.net groups.now }

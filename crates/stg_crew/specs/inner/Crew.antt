@@ -1,5 +1,5 @@
 -- Workers before and after they draw, and what is taken in from them.
-use Rattle.std.specs.Prelude.{◌≡◌, ℕ, ◌+◌, ◌≤◌, List, All, IfOk, Option, length}
+use Rattle.std.specs.Prelude.{◌≡◌, ℕ, ◌+◌, List, All, IfOk, Option, length}
 use Rattle.stg_net.specs.declared.limits.TheConstants.Limits.{SPEC}
 use Rattle.stg_net.specs.Initial.{graph_of}
 use Rattle.stg_net.specs.Net.{NetLists, IsWithin}
@@ -19,7 +19,6 @@ use Rattle.stg_crew.specs.inner.Slots.{placed}
 
 -- what a worker needs to derive the parts of groups
 pub record AreDerivable (n : NetLists) (groups : List Group) : Type 0 where
-  pub few : length groups ≤ 250
   pub within : IsWithin SPEC n
   pub in_range : AreKnownInRange n groups
   pub closed : AreClosed n groups

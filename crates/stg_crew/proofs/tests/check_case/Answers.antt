@@ -1,15 +1,14 @@
-use Rattle.std.proofs.Common.{refl, subst, arith}
+use Rattle.std.proofs.Common.{refl, subst}
 use Rattle.stg_net.specs.Initial.{graph_of}
 use Rattle.stg_net.specs.Net.{NetLists}
 use Rattle.stg_laws.specs.Conflict.{HasNoAutoConflict}
 use Rattle.stg_crew.proofs.GroupRanges.{plain_in_range}
 use Rattle.stg_crew.proofs.tests.check_case.Goals as goal
 
-pub returns : goal.returns
-returns c =
+pub returns-clause-derivable : goal.returns-clause-derivable
+returns-clause-derivable c =
     let P : NetLists → Type 0 = λ n. HasNoAutoConflict (graph_of n) in
     record {
-      few = omega (arith, c.if-len-gt250.false, c.len.ensures);
       within = c.requires.within;
       in_range = plain_in_range c.args.spec.net c.args.groups c.requires.groups;
       closed = c.requires.closed;
