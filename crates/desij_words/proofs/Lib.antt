@@ -1,0 +1,3 @@
+pub mod WordExamples
+pub mod WordForms
+pub mod FormLemmas

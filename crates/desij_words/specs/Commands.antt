@@ -1,0 +1,17 @@
+-- What the code's commands stand for.
+use Rattle.std.specs.Prelude.{ℕ, ◌≤◌, Option}
+use Rattle.std.specs.Option.{option_copied}
+use Rattle.desij_words.specs.declared.words.Command.{Command as Told}
+use Rattle.desij_words.specs.declared.words.Command.TheVariants as told
+use Rattle.desij_words.specs.Words.{Command, Decompose, Measure}
+
+-- the command, with the texts that it borrows
+abbrev pub command_told : Told → Command
+command_told (told.Decompose spec workers partition steps) =
+    Decompose spec.now workers (option_copied partition) steps
+command_told (told.Measure count workers) = Measure count workers
+
+-- the numbers of the command are within its bounds
+abbrev pub IsWithin : Command → Type 0
+IsWithin (Decompose spec workers partition steps) = (1 ≤ workers) × (workers ≤ 64)
+IsWithin (Measure count workers) = ((1 ≤ count) × (count ≤ 248)) × (1 ≤ workers) × (workers ≤ 64)

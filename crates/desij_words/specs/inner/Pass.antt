@@ -1,0 +1,97 @@
+-- How the words of a command are passed over: which names have their value so far.
+use Rattle.std.specs.Prelude.{Bool, true, false, not, ◌&&◌, ◌||◌, List, [], ◌∷◌, map, Option, None, Some, is_some, option_map, if◌then◌else◌, codes}
+use Rattle.std.specs.Str.{bytes_eq}
+use Rattle.std.specs.Option.{option_map_or}
+use Rattle.desij_words.specs.declared.words.form.Action.{Action}
+use Rattle.desij_words.specs.declared.words.form.Action.TheVariants as action
+use Rattle.desij_words.specs.declared.words.form.Met.{Met}
+use Rattle.desij_words.specs.declared.words.form.Pass.{Pass}
+use Rattle.desij_words.specs.declared.words.form.NameKind.{NameKind}
+use Rattle.desij_words.specs.declared.words.form.NameKind.TheVariants as kind
+use Rattle.desij_words.specs.declared.words.form.WordKind.{WordKind}
+use Rattle.desij_words.specs.declared.words.form.WordKind.TheVariants as word
+use Rattle.desij_words.specs.Words.{Text, Name, Positional, Workers, Partition, Steps, Word, Gives, Asks, Unknown, is_file, number_up_to, word_of}
+
+-- the name that the code's kind stands for
+abbrev pub name_told : NameKind → Name
+name_told kind.Positional = Positional
+name_told kind.Workers = Workers
+name_told kind.Partition = Partition
+name_told kind.Steps = Steps
+
+abbrev pub word_told : WordKind → Word
+word_told (word.Gives name value) = Gives (name_told name) value.now
+word_told (word.Asks name) = Asks (name_told name)
+word_told word.Unknown = Unknown
+
+-- whether a value of the name may stand in a word of the command
+abbrev pub allows : Action → Name → Text → Bool
+allows action.Decompose Positional value = is_file value
+allows action.Decompose Workers value = is_some (number_up_to 64 value)
+allows action.Decompose Partition value = is_file value
+allows action.Decompose Steps value = true
+allows action.Measure Positional value = is_some (number_up_to 248 value)
+allows action.Measure Workers value = is_some (number_up_to 64 value)
+allows action.Measure Partition value = false
+allows action.Measure Steps value = false
+
+-- whether the name has its value
+abbrev pub has : Met → Name → Bool
+has met Positional = met.positional
+has met Workers = met.workers
+has met Partition = met.partition
+has met Steps = met.steps
+
+abbrev pub nothing_met : Met
+nothing_met = record { positional = false; workers = false; partition = false; steps = false }
+
+abbrev pub with_name : Met → Name → Met
+with_name met Positional = record met { positional = true }
+with_name met Workers = record met { workers = true }
+with_name met Partition = record met { partition = true }
+with_name met Steps = record met { steps = true }
+
+-- one more value, where the name has none
+abbrev pub met_with : Action → Met → Name → Text → Option Met
+met_with what met name value =
+    if has met name || not (allows what name value) then None else Some (with_name met name)
+
+-- what has its value, and which name asked for the next word
+abbrev pub Place : Type 0
+Place = Met × Option Name
+
+abbrev pub place_of : Pass → Place
+place_of pass = (pass.met, option_map name_told pass.asked)
+
+abbrev pub place_at : Action → Met → Word → Option Place
+place_at what met (Gives name value) = option_map (λ (m : Met). (m, None)) (met_with what met name value)
+place_at what met (Asks name) = Some (met, Some name)
+place_at what met Unknown = None
+
+-- the place after one more word, where it may follow
+abbrev pub place_after : Action → Place → Text → Option Place
+place_after what place word =
+    place_at what place.0 (option_map_or (λ (name : Name). Gives name word) place.1 (word_of word))
+
+abbrev pub is_end : Place → Bool
+is_end place = place.0.positional && not (is_some place.1)
+
+abbrev pub follow : Option Place → (Place → Bool) → Bool
+follow None rest = false
+follow (Some place) rest = rest place
+
+-- whether the words may follow from there to the end
+abbrev pub may_follow : Action → List Text → Place → Bool
+may_follow what [] place = is_end place
+may_follow what (word ∷ words) place = follow (place_after what place word) (may_follow what words)
+
+abbrev pub action_where : Bool → Action → Option Action
+action_where is_of_form what = if is_of_form then Some what else None
+
+-- the command of the words, where those after the first are of its form
+abbrev pub action_in : List Text → Option Action
+action_in [] = None
+action_in (first ∷ words) =
+    if bytes_eq first (codes "decompose") then action_where (may_follow action.Decompose words (nothing_met, None)) action.Decompose
+    else (if bytes_eq first (codes "measure") then action_where (may_follow action.Measure words (nothing_met, None)) action.Measure
+    else None)
