@@ -225,14 +225,14 @@ of_some : {A : Type 0} (o : Option A) → is_some o ≡ true → (x : A) × (o �
 of_some None e = absurd (true≢false (sym e))
 of_some (Some x) e = (x, refl)
 
-abbrev IsMadeBy : Action → (List Given → Option Command) → Type 0
+abbrev pub IsMadeBy : Action → (List Given → Option Command) → Type 0
 IsMadeBy what of_values = (gs : List Given) → is_some (of_values gs) ≡ fine what nothing_met gs
 
 made-some : (what : Action) (of_values : List Given → Option Command) → IsMadeBy what of_values → (o : Option (List Given)) → is_some (option_and_then of_values o) ≡ fine_or_none what nothing_met o
 made-some what of_values same None = refl
 made-some what of_values same (Some gs) = same gs
 
-asked-some : (what : Action) (of_values : List Given → Option Command) → IsMadeBy what of_values → (words : List Text) → is_some (option_and_then of_values (given words None)) ≡ may_follow what words (nothing_met, None)
+pub asked-some : (what : Action) (of_values : List Given → Option Command) → IsMadeBy what of_values → (words : List Text) → is_some (option_and_then of_values (given words None)) ≡ may_follow what words (nothing_met, None)
 asked-some what of_values same words = made-some what of_values same (given words None) ∙ sym (may_follow-fine what words nothing_met None)
 
 asks : (of_values : List Given → Option Command) (name first : Text) (rest : List Text) → first ≡ name → is_some (option_and_then of_values (given rest None)) ≡ true → AsksFor of_values name (first ∷ rest)

@@ -1,3 +1,6 @@
 pub mod WordExamples
 pub mod WordForms
 pub mod FormLemmas
+pub mod WalkRows
+pub mod Walks
+pub mod Matching

@@ -1,6 +1,7 @@
 //! What the words of a run ask for, and the usage that tells their form.
 
 mod form;
+mod matches;
 
 /// What is printed where the words aren't of the form.
 pub const USAGE: &[u8] = b"\
