@@ -4,3 +4,4 @@ pub mod FormLemmas
 pub mod WalkRows
 pub mod Walks
 pub mod Matching
+pub mod CommandLemmas

@@ -90,7 +90,7 @@ has_rows what gs found e = record {
   flag = one_text-rows found (codes "steps") ∙ ap (one_of (codes "steps")) e;
 }
 
-and_then-is : {A B : Type 0} (o : Option A) (f : A → Option B) (y : B) → option_and_then f o ≡ Some y → (x : A) × (o ≡ Some x) × (f x ≡ Some y)
+pub and_then-is : {A B : Type 0} (o : Option A) (f : A → Option B) (y : B) → option_and_then f o ≡ Some y → (x : A) × (o ≡ Some x) × (f x ≡ Some y)
 and_then-is None f y e = absurd (none_some y e)
 and_then-is (Some x) f y e = (x, refl, e)
 
@@ -144,7 +144,7 @@ decompose-values gs command found e made =
     ) in
     subst (HasValues found) is told
 
-measure-made : (gs : List Given) (command : Command) → measure_of gs ≡ Some command
+pub measure-made : (gs : List Given) (command : Command) → measure_of gs ≡ Some command
     → option_and_then (λ count. option_and_then (λ workers. Some (Measure count workers)) (workers_from (values Workers gs))) (count_from (values Positional gs)) ≡ Some command
 measure-made gs command made = by (is_empty (values Partition gs)) (is_empty (values Steps gs)) made
   where
@@ -168,10 +168,10 @@ measure-values gs command found e made =
 
 -- ---- words of the form
 
-asked-decompose : (words : List Text) (a : AsksFor decompose_of (codes "decompose") words) → asked words ≡ Some a.command
+pub asked-decompose : (words : List Text) (a : AsksFor decompose_of (codes "decompose") words) → asked words ≡ Some a.command
 asked-decompose words a = ap asked a.first ∙ ap (option_and_then decompose_of) a.gives ∙ a.made
 
-asked-measure : (words : List Text) (a : AsksFor measure_of (codes "measure") words) → asked words ≡ Some a.command
+pub asked-measure : (words : List Text) (a : AsksFor measure_of (codes "measure") words) → asked words ≡ Some a.command
 asked-measure words a = ap asked a.first ∙ ap (option_and_then measure_of) a.gives ∙ a.made
 
 decompose-follow : (words : List Text) (a : AsksFor decompose_of (codes "decompose") words) → may_follow action.Decompose a.rest (nothing_met, None) ≡ true

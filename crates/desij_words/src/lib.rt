@@ -2,3 +2,5 @@
 #![tactic(auto)]
 
 mod words;
+
+pub use words::{Command, USAGE, decompose_matches, measure_matches, read_command};

@@ -3,6 +3,20 @@
 mod form;
 mod matches;
 
+ghost use Rattle.std.specs.Prelude.{◌≡◌, IfOk, IfSome, Some, codes, option_map};
+ghost use Rattle.std.specs.Option.{option_to_list};
+ghost use Rattle.clap.specs.Words.{first_value, found_of, kind_of};
+ghost use Rattle.desij_words.specs.Words.{Command as Asked, command_of, workers_from};
+ghost use Rattle.desij_words.specs.Commands.{IsWithin, command_told};
+ghost use Rattle.desij_words.specs.Matches.{HasValues, IsDecompose, IsMeasure};
+
+use clap::error::ErrorKind;
+use clap::{ArgMatches, Error};
+use form::{Action, action_of, number};
+pub use matches::{decompose_matches, measure_matches};
+use std::alloc::Global;
+use stg_net::NoMemory;
+
 /// What is printed where the words aren't of the form.
 pub const USAGE: &[u8] = b"\
 usage: desij decompose SPEC [--workers N] [--partition FILE] [--steps]
@@ -30,4 +44,68 @@ pub enum Command<'a> {
         /// How many workers share the groups, 1 to 64.
         workers: u32,
     },
+}
+
+/// What the words ask for; `None` where they aren't of the form.
+pub fn read_command<'a>(
+    alloc: Global,
+    words: &'a [String],
+) -> Result<Option<Command<'a>>, NoMemory>
+    ensures value { IfOk result (λ command.
+        option_map command_told command ≡ command_of words.entry.now) }
+    ensures within { IfOk result (λ command. IfSome command (λ c. IsWithin (command_told c))) }
+{
+    match action_of(words) {
+        Some(Action::Decompose) => match decompose_matches(alloc, words) {
+            Ok(matches) => Ok(decompose_command(&matches)),
+            Err(error) => Err(no_memory(error)),
+        },
+        Some(Action::Measure) => match measure_matches(alloc, words) {
+            Ok(matches) => Ok(measure_command(&matches)),
+            Err(error) => Err(no_memory(error)),
+        },
+        None => Ok(None),
+    }
+}
+
+fn workers(matches: &ArgMatches) -> Option<u32>
+    ensures { result ≡ workers_from
+        (option_to_list (first_value (found_of matches.now) (codes "workers"))) }
+{
+    match matches.get_str("workers") {
+        Some(word) => number(word, 64),
+        None => Some(1),
+    }
+}
+
+fn decompose_command<'a>(matches: &ArgMatches<'a>) -> Option<Command<'a>>
+    ensures { (command : Asked) → IsDecompose command → HasValues (found_of matches.now) command
+        → option_map command_told result ≡ Some command }
+{
+    Some(Command::Decompose {
+        spec: matches.get_str("spec")?,
+        workers: workers(matches)?,
+        partition: matches.get_str("partition"),
+        steps: matches.get_flag("steps"),
+    })
+}
+
+fn measure_command<'a>(matches: &ArgMatches<'a>) -> Option<Command<'a>>
+    ensures { (command : Asked) → IsMeasure command → HasValues (found_of matches.now) command
+        → option_map command_told result ≡ Some command }
+{
+    Some(Command::Measure {
+        count: number(matches.get_str("count")?, 248)?,
+        workers: workers(matches)?,
+    })
+}
+
+// Words of the form fail for want of memory alone.
+fn no_memory(error: Error) -> NoMemory
+    requires { kind_of error ≡ ErrorKind.OutOfMemory }
+{
+    match error.kind() {
+        ErrorKind::OutOfMemory => NoMemory,
+        _ => unreachable!(),
+    }
 }
