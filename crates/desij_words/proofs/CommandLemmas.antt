@@ -1,7 +1,7 @@
 -- The commands that words ask for.
-use Rattle.std.proofs.Common.{◌≡◌, ℕ, ◌+◌, ◌*◌, ◌-◌, ◌<◌, ◌≤◌, Bool, true, false, cond, ◌&&◌, true≢false, nat_le, List, [], ◌∷◌, Option, None, Some, is_some, refl, sym, ap, ◌∙◌, subst, arith, map}
+use Rattle.std.proofs.Common.{◌≡◌, ℕ, ◌+◌, ◌*◌, ◌≤◌, Bool, true, false, cond, ◌&&◌, true≢false, nat_le, List, [], ◌∷◌, Option, None, Some, refl, sym, ◌∙◌, subst, arith, map}
 use Rattle.std.specs.List.{list_all}
-use Rattle.std.specs.Option.{option_map, option_and_then, IfSome, IsSomeAnd}
+use Rattle.std.specs.Option.{option_map, IfSome, IsSome, IsSomeAnd}
 use Rattle.std.specs.Char.{digit_value}
 use Rattle.std.specs.Str.Parse.{digits_value, digits_value_after}
 use Rattle.std.specs.String.{string_bytes}
@@ -16,9 +16,9 @@ use Rattle.desij_words.specs.declared.words.form.Action.TheVariants as action
 use Rattle.desij_words.specs.Words.{Text, Command, Decompose, Measure, Given, Positional, Workers, Partition, Steps, begins_number, number_up_to, values, spec_from, count_from, workers_from, partition_from, steps_from, decompose_of, measure_of, asked, command_of}
 use Rattle.desij_words.specs.Commands.{command_told, IsWithin}
 use Rattle.desij_words.specs.inner.Pass.{action_in}
-use Rattle.desij_words.proofs.WordForms.{none_some, some_same}
+use Rattle.desij_words.proofs.WordLemmas.{none_some, some_same}
 use Rattle.desij_words.proofs.FormLemmas.{Tells, action_in-tells}
-use Rattle.desij_words.proofs.Matching.{IsActionOf, action-asked, and_then-is, measure-made, asked-decompose, asked-measure}
+use Rattle.desij_words.proofs.ClapMatches.{IsActionOf, action-asked, and_then-is, measure-made, asked-decompose, asked-measure}
 
 -- ---- numbers are at least 1
 
@@ -102,3 +102,8 @@ found-asked words o p e f = subst (λ (q : Option Action). IsActionOf q (command
 pub read-as : (o r : Option Command) (P Q : Command → Type 0) → IsSomeAnd o P → IsSomeAnd o Q → ((command : Command) → P command → Q command → r ≡ Some command) → r ≡ o
 read-as None r P Q p q h = absurd p
 read-as (Some command) r P Q p q h = h command p q
+
+-- words of a command are of the form
+pub some-asked : (o : Option Command) (P : Command → Type 0) → IsSomeAnd o P → IsSome o
+some-asked None P p = absurd p
+some-asked (Some command) P p = refl

@@ -1,5 +1,5 @@
 -- The pass over the words ends well on exactly those of the form.
-use Rattle.std.proofs.Common.{◌≡◌, ◌∙◌, sym, ap, ap₂, subst, refl, Bool, true, false, not, cond, ◌&&◌, ◌||◌, true≢false, List, [], ◌∷◌, map, Option, None, Some, is_some, codes}
+use Rattle.std.proofs.Common.{◌≡◌, ◌∙◌, sym, ap, ap₂, subst, refl, Bool, true, false, not, cond, ◌&&◌, ◌||◌, true≢false, List, [], ◌∷◌, Option, None, Some, is_some, codes}
 use Rattle.std.specs.Option.{option_map, option_and_then}
 use Rattle.std.specs.Str.{bytes_eq}
 use Rattle.std.proofs.lemmas.Slice.Eq.{bytes_eq-Decides}
@@ -7,7 +7,7 @@ use Rattle.desij_words.specs.declared.words.form.Action.{Action}
 use Rattle.desij_words.specs.declared.words.form.Action.TheVariants as action
 use Rattle.desij_words.specs.declared.words.form.Met.{Met}
 use Rattle.desij_words.specs.Words.{Text, Command, Given, Name, Positional, Workers, Partition, Steps, Word, Gives, Asks, Unknown, is_file, file_of, number_up_to, word_of, at_word, given, values, is_empty, spec_from, count_from, workers_from, partition_from, steps_from, decompose_of, measure_of, asked}
-use Rattle.desij_words.specs.inner.Pass.{allows, has, nothing_met, with_name, met_with, Place, place_at, place_after, follow, may_follow, action_where, action_in}
+use Rattle.desij_words.specs.inner.Pass.{allows, has, nothing_met, with_name, Place, place_at, follow, may_follow, action_where, action_in}
 
 -- ---- truth values
 

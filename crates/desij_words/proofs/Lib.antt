@@ -1,7 +1,7 @@
 pub mod WordExamples
-pub mod WordForms
+pub mod WordLemmas
 pub mod FormLemmas
-pub mod WalkRows
-pub mod Walks
-pub mod Matching
+pub mod ClapRows
+pub mod ClapWalks
+pub mod ClapMatches
 pub mod CommandLemmas

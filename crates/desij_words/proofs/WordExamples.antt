@@ -1,6 +1,7 @@
 -- Worked words, computed.
-use Rattle.std.proofs.Common.{◌≡◌, [], ◌∷◌, Option, None, Some, List, refl, codes, true, false, map}
-use Rattle.desij_words.specs.Words.{Text, Command, Decompose, Measure, asked}
+use Rattle.std.proofs.Common.{◌≡◌, [], ◌∷◌, None, Some, List, refl, codes, true, false, map}
+use Rattle.desij_words.specs.Words.{Text, Decompose, Measure, asked, usage}
+use Rattle.desij_words.specs.declared.words.TheConstants.{USAGE}
 
 plain : asked (codes "decompose" ∷ codes "a.g" ∷ []) ≡ Some (Decompose (codes "a.g") 1 None false)
 plain = refl
@@ -70,3 +71,6 @@ no_form : AllRefused (
     ∷ (codes "measure" ∷ codes "--" ∷ codes "7" ∷ [])
     ∷ [])
 no_form = refl
+
+usage_printed : USAGE.now ≡ usage
+usage_printed = refl

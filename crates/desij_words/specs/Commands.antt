@@ -1,5 +1,5 @@
 -- What the code's commands stand for.
-use Rattle.std.specs.Prelude.{ℕ, ◌≤◌, Option}
+use Rattle.std.specs.Prelude.{◌≤◌}
 use Rattle.std.specs.Option.{option_copied}
 use Rattle.desij_words.specs.declared.words.Command.{Command as Told}
 use Rattle.desij_words.specs.declared.words.Command.TheVariants as told

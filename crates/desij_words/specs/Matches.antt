@@ -1,5 +1,5 @@
 -- What `clap` reads of words of the form.
-use Rattle.std.specs.Prelude.{◌≡◌, Bool, true, false, List, Option, None, Some, codes, ⊤}
+use Rattle.std.specs.Prelude.{◌≡◌, Bool, true, false, Some, codes, ⊤}
 use Rattle.std.specs.Option.{option_to_list}
 use Rattle.clap.specs.Words.{first_value, one_text}
 use Rattle.clap.specs.declared.parser.matches.Found.{Found}

@@ -145,26 +145,26 @@ steps_from (word ∷ other ∷ more) = None
 
 -- ---- the commands
 
+-- goes on with the value, where there is one
+abbrev pub if_some : {A B : Type 0} → Option A → (A → Option B) → Option B
+if_some o rest = option_and_then rest o
+
 -- `decompose SPEC [--workers N] [--partition FILE] [--steps]`
 abbrev pub decompose_of : List Given → Option Command
 decompose_of gs =
-    option_and_then (λ spec.
-    option_and_then (λ workers.
-    option_and_then (λ partition.
-    option_and_then (λ steps. Some (Decompose spec workers partition steps))
-    (steps_from (values Steps gs)))
-    (partition_from (values Partition gs)))
-    (workers_from (values Workers gs)))
-    (spec_from (values Positional gs))
+    if_some (spec_from (values Positional gs)) (λ spec.
+    if_some (workers_from (values Workers gs)) (λ workers.
+    if_some (partition_from (values Partition gs)) (λ partition.
+    if_some (steps_from (values Steps gs)) (λ steps.
+    Some (Decompose spec workers partition steps)))))
 
 -- `measure N [--workers N]`
 abbrev pub measure_of : List Given → Option Command
 measure_of gs =
     if is_empty (values Partition gs) && is_empty (values Steps gs) then
-    option_and_then (λ count.
-    option_and_then (λ workers. Some (Measure count workers))
-    (workers_from (values Workers gs)))
-    (count_from (values Positional gs))
+    if_some (count_from (values Positional gs)) (λ count.
+    if_some (workers_from (values Workers gs)) (λ workers.
+    Some (Measure count workers)))
     else None
 
 -- what the texts of the words ask for: the first is the command, options and other words come
@@ -172,8 +172,8 @@ measure_of gs =
 abbrev pub asked : List Text → Option Command
 asked [] = None
 asked (first ∷ words) =
-    if bytes_eq first (codes "decompose") then option_and_then decompose_of (given words None)
-    else (if bytes_eq first (codes "measure") then option_and_then measure_of (given words None)
+    if bytes_eq first (codes "decompose") then if_some (given words None) decompose_of
+    else (if bytes_eq first (codes "measure") then if_some (given words None) measure_of
     else None)
 
 -- what the words ask for; None where they aren't of the form

@@ -2,8 +2,10 @@
 
 mod form;
 mod matches;
+#[cfg(test)]
+mod tests;
 
-ghost use Rattle.std.specs.Prelude.{◌≡◌, IfOk, IfSome, Some, codes, option_map};
+ghost use Rattle.std.specs.Prelude.{◌≡◌, IfOk, IfSome, IsSome, OnErr, Some, codes, option_map};
 ghost use Rattle.std.specs.Option.{option_to_list};
 ghost use Rattle.clap.specs.Words.{first_value, found_of, kind_of};
 ghost use Rattle.desij_words.specs.Words.{Command as Asked, command_of, workers_from};
@@ -24,7 +26,7 @@ usage: desij decompose SPEC [--workers N] [--partition FILE] [--steps]
 ";
 
 /// What a run is asked to do.
-#[derive(Clone, Copy)]
+#[derive(Clone, Copy, Debug, PartialEq, Eq)]
 pub enum Command<'a> {
     /// To decompose a specification.
     Decompose {
@@ -46,14 +48,12 @@ pub enum Command<'a> {
     },
 }
 
-/// What the words ask for; `None` where they aren't of the form.
-pub fn read_command<'a>(
-    alloc: Global,
-    words: &'a [String],
-) -> Result<Option<Command<'a>>, NoMemory>
+/// What the words ask for; `None` where they aren't of the form. Words that aren't take no memory.
+pub fn read_command<'a>(alloc: Global, words: &'a [String]) -> Result<Option<Command<'a>>, NoMemory>
     ensures value { IfOk result (λ command.
         option_map command_told command ≡ command_of words.entry.now) }
     ensures within { IfOk result (λ command. IfSome command (λ c. IsWithin (command_told c))) }
+    ensures no_memory { OnErr result (IsSome (command_of words.entry.now)) }
 {
     match action_of(words) {
         Some(Action::Decompose) => match decompose_matches(alloc, words) {

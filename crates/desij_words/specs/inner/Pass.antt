@@ -1,25 +1,25 @@
 -- How the words of a command are passed over: which names have their value so far.
-use Rattle.std.specs.Prelude.{Bool, true, false, not, ◌&&◌, ◌||◌, List, [], ◌∷◌, map, Option, None, Some, is_some, option_map, if◌then◌else◌, codes}
+use Rattle.std.specs.Prelude.{Bool, true, false, not, ◌&&◌, ◌||◌, List, [], ◌∷◌, Option, None, Some, is_some, option_map, if◌then◌else◌, codes}
 use Rattle.std.specs.Str.{bytes_eq}
 use Rattle.std.specs.Option.{option_map_or}
 use Rattle.desij_words.specs.declared.words.form.Action.{Action}
 use Rattle.desij_words.specs.declared.words.form.Action.TheVariants as action
 use Rattle.desij_words.specs.declared.words.form.Met.{Met}
 use Rattle.desij_words.specs.declared.words.form.Pass.{Pass}
-use Rattle.desij_words.specs.declared.words.form.NameKind.{NameKind}
-use Rattle.desij_words.specs.declared.words.form.NameKind.TheVariants as kind
-use Rattle.desij_words.specs.declared.words.form.WordKind.{WordKind}
-use Rattle.desij_words.specs.declared.words.form.WordKind.TheVariants as word
+use Rattle.desij_words.specs.declared.words.form.Name.{Name as NameTold}
+use Rattle.desij_words.specs.declared.words.form.Name.TheVariants as name
+use Rattle.desij_words.specs.declared.words.form.Word.{Word as WordTold}
+use Rattle.desij_words.specs.declared.words.form.Word.TheVariants as word
 use Rattle.desij_words.specs.Words.{Text, Name, Positional, Workers, Partition, Steps, Word, Gives, Asks, Unknown, is_file, number_up_to, word_of}
 
 -- the name that the code's kind stands for
-abbrev pub name_told : NameKind → Name
-name_told kind.Positional = Positional
-name_told kind.Workers = Workers
-name_told kind.Partition = Partition
-name_told kind.Steps = Steps
+abbrev pub name_told : NameTold → Name
+name_told name.Positional = Positional
+name_told name.Workers = Workers
+name_told name.Partition = Partition
+name_told name.Steps = Steps
 
-abbrev pub word_told : WordKind → Word
+abbrev pub word_told : WordTold → Word
 word_told (word.Gives name value) = Gives (name_told name) value.now
 word_told (word.Asks name) = Asks (name_told name)
 word_told word.Unknown = Unknown

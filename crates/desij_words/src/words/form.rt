@@ -19,7 +19,7 @@ pub enum Action {
 
 /// What a word gives a value to: an option, or the place of a word that is no option's.
 #[derive(Clone, Copy)]
-pub enum NameKind {
+pub enum Name {
     Positional,
     Workers,
     Partition,
@@ -27,9 +27,9 @@ pub enum NameKind {
 }
 
 // What a word is by itself.
-enum WordKind<'a> {
-    Gives(NameKind, &'a str),
-    Asks(NameKind),
+enum Word<'a> {
+    Gives(Name, &'a str),
+    Asks(Name),
     Unknown,
 }
 
@@ -82,35 +82,35 @@ fn value_after<'a>(word: &'a str, beginning: &str) -> Option<&'a str>
     word.strip_prefix(beginning)
 }
 
-fn read_word(word: &str) -> WordKind<'_>
+fn read_word(word: &str) -> Word<'_>
     ensures { word_told result ≡ word_of word.now }
 {
     if word == "--steps" {
-        WordKind::Gives(NameKind::Steps, "")
+        Word::Gives(Name::Steps, "")
     } else if word == "--workers" {
-        WordKind::Asks(NameKind::Workers)
+        Word::Asks(Name::Workers)
     } else if word == "--partition" {
-        WordKind::Asks(NameKind::Partition)
+        Word::Asks(Name::Partition)
     } else if let Some(value) = value_after(word, "--workers=") {
-        WordKind::Gives(NameKind::Workers, value)
+        Word::Gives(Name::Workers, value)
     } else if let Some(value) = value_after(word, "--partition=") {
-        WordKind::Gives(NameKind::Partition, value)
+        Word::Gives(Name::Partition, value)
     } else if begins_with_dash(word) {
-        WordKind::Unknown
+        Word::Unknown
     } else {
-        WordKind::Gives(NameKind::Positional, word)
+        Word::Gives(Name::Positional, word)
     }
 }
 
 impl Action {
-    fn allows(self, name: NameKind, value: &str) -> bool
+    fn allows(self, name: Name, value: &str) -> bool
         ensures { result ≡ allows self (name_told name) value.now }
     {
         match (self, name) {
-            (_, NameKind::Workers) => number(value, 64).is_some(),
-            (Action::Measure, NameKind::Positional) => number(value, 248).is_some(),
+            (_, Name::Workers) => number(value, 64).is_some(),
+            (Action::Measure, Name::Positional) => number(value, 248).is_some(),
             (Action::Measure, _) => false,
-            (Action::Decompose, NameKind::Steps) => true,
+            (Action::Decompose, Name::Steps) => true,
             (Action::Decompose, _) => is_file(value),
         }
     }
@@ -118,24 +118,24 @@ impl Action {
 
 impl Met {
     // One more value, where the name has none and the command allows it.
-    fn with(self, action: Action, name: NameKind, value: &str) -> Option<Met>
+    fn with(self, action: Action, name: Name, value: &str) -> Option<Met>
         ensures { result ≡ met_with action self (name_told name) value.now }
     {
         let is_met = match name {
-            NameKind::Positional => self.positional,
-            NameKind::Workers => self.workers,
-            NameKind::Partition => self.partition,
-            NameKind::Steps => self.steps,
+            Name::Positional => self.positional,
+            Name::Workers => self.workers,
+            Name::Partition => self.partition,
+            Name::Steps => self.steps,
         };
         if is_met || !action.allows(name, value) {
             return None;
         }
         let mut met = self;
         match name {
-            NameKind::Positional => met.positional = true,
-            NameKind::Workers => met.workers = true,
-            NameKind::Partition => met.partition = true,
-            NameKind::Steps => met.steps = true,
+            Name::Positional => met.positional = true,
+            Name::Workers => met.workers = true,
+            Name::Partition => met.partition = true,
+            Name::Steps => met.steps = true,
         }
         Some(met)
     }
@@ -159,7 +159,7 @@ impl Met {
 #[derive(Clone, Copy)]
 struct Pass {
     met: Met,
-    asked: Option<NameKind>,
+    asked: Option<Name>,
 }
 
 impl Pass {
@@ -168,19 +168,19 @@ impl Pass {
         ensures { option_map place_of result ≡ place_after action (place_of self) word.now }
     {
         let read = match self.asked {
-            Some(name) => WordKind::Gives(name, word),
+            Some(name) => Word::Gives(name, word),
             None => read_word(word),
         };
         match read {
-            WordKind::Gives(name, value) => {
+            Word::Gives(name, value) => {
                 let met = self.met.with(action, name, value)?;
                 Some(Pass { met, asked: None })
             }
-            WordKind::Asks(name) => Some(Pass {
+            Word::Asks(name) => Some(Pass {
                 met: self.met,
                 asked: Some(name),
             }),
-            WordKind::Unknown => None,
+            Word::Unknown => None,
         }
     }
 }

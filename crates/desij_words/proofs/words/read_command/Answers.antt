@@ -5,7 +5,7 @@ use Rattle.desij_words.specs.declared.words.form.Action.TheVariants as action
 use Rattle.desij_words.specs.Words.{command_of}
 use Rattle.desij_words.specs.Commands.{command_told}
 use Rattle.desij_words.specs.Matches.{HasValues, IsDecompose, IsMeasure}
-use Rattle.desij_words.proofs.CommandLemmas.{found-asked, read-as, told-within}
+use Rattle.desij_words.proofs.CommandLemmas.{found-asked, read-as, some-asked, told-within}
 use Rattle.desij_words.proofs.words.read_command.Goals as goal
 
 pub decompose_matches-requires : goal.decompose_matches-requires
@@ -36,3 +36,13 @@ returns-in-Ok-measure_matches-clause-value c =
 
 pub returns-in-Ok-measure_matches-clause-within : goal.returns-in-Ok-measure_matches-clause-within
 returns-in-Ok-measure_matches-clause-within c = told-within c.args.words.now c.measure_command.result (returns-in-Ok-measure_matches-clause-value c)
+
+pub returns-in-Err-clause-no_memory : goal.returns-in-Err-clause-no_memory
+returns-in-Err-clause-no_memory c =
+    some-asked (command_of c.args.words.now) IsDecompose
+    (found-asked c.args.words.now c.action_of.result (Some action.Decompose) c.action_of.ensures (c.in-Some-Decompose.is ∙ ap Some c.in-Some-Decompose.field-0-is))
+
+pub returns-in-Err-measure_matches-clause-no_memory : goal.returns-in-Err-measure_matches-clause-no_memory
+returns-in-Err-measure_matches-clause-no_memory c =
+    some-asked (command_of c.args.words.now) IsMeasure
+    (found-asked c.args.words.now c.action_of.result (Some action.Measure) c.action_of.ensures (c.in-Some-Measure.is ∙ ap Some c.in-Some-Measure.field-0-is))

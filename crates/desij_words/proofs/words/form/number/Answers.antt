@@ -1,6 +1,5 @@
-use Rattle.std.proofs.Common.{◌≡◌, ◌∙◌, ◌<◌, ◌^◌, sym, ap, refl, cond, nat_le, true, le-leb, ℕ, Option, Some, None, arith}
-use Rattle.desij_words.specs.Words.{number_up_to}
-use Rattle.desij_words.proofs.WordForms.{up_to, number-parsed}
+use Rattle.std.proofs.Common.{◌≡◌, ◌∙◌, sym, ap, refl, nat_le, true, le-leb, Some, arith}
+use Rattle.desij_words.proofs.WordLemmas.{up_to, number-parsed}
 use Rattle.desij_words.proofs.words.form.number.Goals as goal
 
 pub returns-in_default : goal.returns-in_default

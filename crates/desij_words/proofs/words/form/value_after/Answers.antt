@@ -1,4 +1,4 @@
-use Rattle.desij_words.proofs.WordForms.{after-stripped}
+use Rattle.desij_words.proofs.WordLemmas.{after-stripped}
 use Rattle.desij_words.proofs.words.form.value_after.Goals as goal
 
 pub returns : goal.returns

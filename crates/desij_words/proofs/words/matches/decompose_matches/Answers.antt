@@ -1,11 +1,11 @@
-use Rattle.std.proofs.Common.{rules, ap, ap₂, ◌≡◌, ◌∙◌, List, map, codes, true}
+use Rattle.std.proofs.Common.{rules, ap, ap₂, ◌≡◌, ◌∙◌, List, map, codes}
 use Rattle.std.specs.String.{string_bytes}
 use Rattle.std.proofs.lemmas.Result.{IfErr-weaker, IfOk-weaker}
 use Rattle.clap.specs.Words.{app_of, found_of, is_simple, matches_of, new_rule, rule_of, takes, with_rule}
 use Rattle.desij_words.specs.declared.words.form.Action.TheVariants as action
 use Rattle.desij_words.specs.Words.{Text, command_of}
-use Rattle.desij_words.proofs.Walks.{app, is_simple-app, partition_rule, steps_rule, workers_rule}
-use Rattle.desij_words.proofs.Matching.{decompose-asks, decompose-has, decompose-takes}
+use Rattle.desij_words.proofs.ClapWalks.{app, is_simple-app, partition_rule, steps_rule, workers_rule}
+use Rattle.desij_words.proofs.ClapMatches.{decompose-asks, decompose-has, decompose-takes}
 use Rattle.desij_words.proofs.words.matches.decompose_matches.Goals as goal
 
 pub returns : goal.returns

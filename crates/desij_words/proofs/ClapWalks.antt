@@ -1,9 +1,9 @@
 -- The commands of `clap` take all words of the form.
-use Rattle.std.proofs.Common.{◌≡◌, ℕ, ◌+◌, ◌<◌, ◌≤◌, Bool, true, false, not, ◌&&◌, ◌||◌, ◌==◌, true≢false, cond, nat_le, List, [], ◌∷◌, ◌++◌, map, append_assoc, append-nil, Option, None, Some, is_some, refl, sym, ap, ap₂, ◌∙◌, subst, arith, codes, fold}
+use Rattle.std.proofs.Common.{◌≡◌, ℕ, Bool, true, false, not, ◌&&◌, ◌||◌, ◌==◌, true≢false, cond, nat_le, List, [], ◌∷◌, ◌++◌, map, append_assoc, append-nil, Option, None, Some, is_some, refl, sym, ap, ap₂, ◌∙◌, subst, arith, codes, fold}
 use Rattle.std.specs.List.{list_all}
 use Rattle.std.specs.Str.{bytes_eq}
 use Rattle.std.specs.Str.Parse.{digits_value}
-use Rattle.std.specs.Option.{option_map, option_map_or}
+use Rattle.std.specs.Option.{option_map}
 use Rattle.std.proofs.lemmas.Bool.{eqb-true, leb-true}
 use Rattle.std.proofs.lemmas.List.Folds.{list_any-append}
 use Rattle.std.proofs.lemmas.Slice.Eq.{bytes_eq-Decides}
@@ -17,11 +17,11 @@ use Rattle.stg_net.specs.Names.{is_digit}
 use Rattle.desij_words.specs.declared.words.form.Action.{Action}
 use Rattle.desij_words.specs.declared.words.form.Action.TheVariants as action
 use Rattle.desij_words.specs.declared.words.form.Met.{Met}
-use Rattle.desij_words.specs.Words.{Text, Given, Name, Positional, Workers, Partition, Steps, Word, Gives, Asks, Unknown, after, or_gives, begins_with_dash, begins_number, is_number, is_file, is_same, number_up_to, word_of, at_word, given}
-use Rattle.desij_words.specs.inner.Pass.{allows, has, nothing_met, with_name, met_with, Place, place_at, follow, may_follow}
-use Rattle.desij_words.proofs.WordForms.{none_some, some_same, after_is}
+use Rattle.desij_words.specs.Words.{Text, Given, Name, Positional, Workers, Partition, Steps, Word, Gives, Asks, Unknown, after, or_gives, begins_with_dash, begins_number, is_file, is_same, number_up_to, word_of, at_word, given}
+use Rattle.desij_words.specs.inner.Pass.{allows, has, with_name, Place, place_at, follow, may_follow}
+use Rattle.desij_words.proofs.WordLemmas.{none_some, some_same, after_is}
 use Rattle.desij_words.proofs.FormLemmas.{and_false}
-use Rattle.desij_words.proofs.WalkRows.{Use, positional_id, id_in, shown, use_in, is_used, or_true, or_none, rows_for, no_row, added, IsPlain, file-plain, same-ids}
+use Rattle.desij_words.proofs.ClapRows.{Use, positional_id, id_in, use_in, is_used, or_true, or_none, rows_for, no_row, added, IsPlain, file-plain, same-ids}
 
 abbrev pub workers_rule : Rule
 workers_rule = record (new_rule (codes "workers")) { long = Some (codes "workers") }

@@ -1,9 +1,8 @@
 -- What `clap` makes of words of the form.
-use Rattle.std.proofs.Common.{◌≡◌, ℕ, ◌&&◌, Bool, true, false, cond, true≢false, List, [], ◌∷◌, ◌++◌, map, Option, None, Some, is_some, refl, sym, ap, ap₂, ◌∙◌, subst, codes}
+use Rattle.std.proofs.Common.{◌≡◌, ℕ, ◌&&◌, Bool, true, false, cond, true≢false, List, [], ◌∷◌, Option, None, Some, is_some, refl, sym, ap, ◌∙◌, subst, codes}
 use Rattle.std.specs.Str.{bytes_eq}
 use Rattle.std.specs.Option.{option_map, option_and_then, option_to_list, IsSomeAnd}
-use Rattle.std.proofs.lemmas.Slice.Eq.{bytes_eq-Decides}
-use Rattle.clap.specs.Words.{Row, first_of, first_value, found_of, matches_of, one_of, one_text, rows_of, takes}
+use Rattle.clap.specs.Words.{Row, first_of, first_value, matches_of, one_of, one_text, rows_of, takes}
 use Rattle.clap.specs.Walk.{has_row, with_values, walk_from, nothing_held}
 use Rattle.clap.specs.declared.parser.matches.ValueSource.TheVariants.{DefaultValue}
 use Rattle.clap.specs.declared.parser.matches.Found.{Found}
@@ -12,13 +11,13 @@ use Rattle.clap.proofs.OnLiterals.{clap_on_literals}
 use Rattle.clap.proofs.WalkLemmas.{first_value-rows, one_text-rows}
 use Rattle.desij_words.specs.declared.words.form.Action.{Action}
 use Rattle.desij_words.specs.declared.words.form.Action.TheVariants as action
-use Rattle.desij_words.specs.Words.{Text, Command, Decompose, Measure, Given, Name, Positional, Workers, Partition, Steps, given, values, is_empty, is_file, file_of, number_up_to, spec_from, count_from, workers_from, partition_from, steps_from, decompose_of, measure_of, asked}
+use Rattle.desij_words.specs.Words.{Text, Command, Decompose, Measure, Given, Name, Positional, Workers, Partition, Steps, given, values, is_empty, is_file, spec_from, count_from, workers_from, partition_from, steps_from, decompose_of, measure_of, asked}
 use Rattle.desij_words.specs.Matches.{HasValues, IsDecompose, IsMeasure, flag_text}
 use Rattle.desij_words.specs.inner.Pass.{has, nothing_met, may_follow, action_in}
-use Rattle.desij_words.proofs.WordForms.{none_some, some_same}
+use Rattle.desij_words.proofs.WordLemmas.{none_some, some_same}
 use Rattle.desij_words.proofs.FormLemmas.{AsksFor, Tells, action_in-tells, asked-some, decompose-fine, measure-fine}
-use Rattle.desij_words.proofs.WalkRows.{Use, id_in, shown, is_used, rows_for, cond_same, defaulted, value-found, flag-found, or_default, value_of, first, value-first}
-use Rattle.desij_words.proofs.Walks.{app, Goal, uses, takes-all, settled_idle}
+use Rattle.desij_words.proofs.ClapRows.{Use, id_in, shown, is_used, rows_for, cond_same, defaulted, value-found, flag-found, or_default, first, value-first}
+use Rattle.desij_words.proofs.ClapWalks.{app, Goal, uses, takes-all, settled_idle}
 
 -- ---- the walk from the start
 
