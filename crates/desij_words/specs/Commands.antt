@@ -11,7 +11,7 @@ command_told (told.Decompose spec workers partition steps) =
     Decompose spec.now workers (option_copied partition) steps
 command_told (told.Measure count workers) = Measure count workers
 
--- the numbers of the command are within its bounds
+-- the command's numbers are within their bounds
 abbrev pub IsWithin : Command → Type 0
 IsWithin (Decompose spec workers partition steps) = (1 ≤ workers) × (workers ≤ 64)
 IsWithin (Measure count workers) = ((1 ≤ count) × (count ≤ 248)) × (1 ≤ workers) × (workers ≤ 64)

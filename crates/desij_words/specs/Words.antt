@@ -1,4 +1,4 @@
--- What the words of a run ask for.
+-- What the words of a run ask for. `command_of`, at the end, says it of all words.
 use Rattle.std.specs.Prelude.{ℕ, Bool, true, false, not, ◌&&◌, ◌==◌, nat_le, List, [], ◌∷◌, ◌++◌, map, filter, Option, None, Some, option_map, option_and_then, String, if◌then◌else◌, codes}
 use Rattle.std.specs.List.{list_all}
 use Rattle.std.specs.Str.{bytes_eq}
@@ -7,39 +7,44 @@ use Rattle.std.specs.String.{string_bytes}
 use Rattle.std.specs.declared.alloc.Global.{Global}
 use Rattle.stg_net.specs.Names.{is_between, is_digit}
 
+-- the bytes of a word
 abbrev pub Text : Type 0
 Text = List ℕ
 
 -- what a run is asked to do
 pub data Command : Type 0 where
-  -- to decompose the specification in a file, where a partition may stand in another
+  -- to decompose the specification in the file of that name, by that many workers, into the
+  -- groups of a partition's file or the plain ones, with logs of the steps or without
   Decompose : (spec : Text) (workers : ℕ) (partition : Option Text) (steps : Bool) → Command
-  -- to decompose the pipeline of that many stages
+  -- to decompose the pipeline of that many stages, by that many workers
   Measure : (count workers : ℕ) → Command
 
 -- ---- values
 
+-- whether the list has nothing in it
 abbrev pub is_empty : {A : Type 0} → List A → Bool
 is_empty [] = true
 is_empty (x ∷ xs) = false
 
+-- whether the word begins with `-`
 abbrev pub begins_with_dash : Text → Bool
 begins_with_dash [] = false
 begins_with_dash (c ∷ cs) = c == 45
 
--- the name of a file isn't empty and doesn't begin with a dash
+-- the name of a file isn't empty and doesn't begin with `-`
 abbrev pub is_file : Text → Bool
 is_file word = not (is_empty word) && not (begins_with_dash word)
 
--- with a digit that isn't 0
+-- whether the word begins with a digit that isn't 0
 abbrev pub begins_number : Text → Bool
 begins_number [] = false
 begins_number (c ∷ cs) = is_between 49 57 c
 
--- a number has digits alone, and no 0 at its beginning
+-- a number has decimal digits alone, and no 0 at its beginning
 abbrev pub is_number : Text → Bool
 is_number word = begins_number word && list_all is_digit word
 
+-- the word as the name of a file, where it may be one
 abbrev pub file_of : Text → Option Text
 file_of word = if is_file word then Some word else None
 
@@ -51,7 +56,7 @@ number_up_to most word =
 
 -- ---- what the words after the first give
 
--- what a word gives a value to: an option, or the place of a word that is no option's
+-- what has a value: the place of a word that is no option's, or an option
 pub data Name : Type 0 where
   Positional : Name
   Workers : Name
@@ -68,17 +73,18 @@ pub data Word : Type 0 where
   Asks : Name → Word
   Unknown : Word
 
--- what follows the beginning
+-- what follows the beginning in a word that begins so
 abbrev pub after : Text → Text → Option Text
 after [] word = Some word
 after (b ∷ beginning) [] = None
 after (b ∷ beginning) (c ∷ word) = if b == c then after beginning word else None
 
+-- the word gives the value, where there is one
 abbrev pub or_gives : Name → Option Text → Word → Word
 or_gives name (Some value) other = Gives name value
 or_gives name None other = other
 
--- an option is a whole word, or is followed by `=` and its value
+-- what each word is; an option's value is the next word, or follows `=` in the same word
 abbrev pub word_of : Text → Word
 word_of word =
     if bytes_eq word (codes "--steps") then Gives Steps []
@@ -88,18 +94,20 @@ word_of word =
     (or_gives Partition (after (codes "--partition=") word)
     (if begins_with_dash word then Unknown else Gives Positional word)))))
 
+-- what a word gives, with what those after it give
 abbrev pub at_word : Word → (Option Name → Option (List Given)) → Option (List Given)
 at_word (Gives name value) rest = option_map (λ gs. (name, value) ∷ gs) (rest None)
 at_word (Asks name) rest = rest (Some name)
 at_word Unknown rest = None
 
--- what the words give, in their order; the first one is the value of a name that asked for it
+-- what the words give, in their order; where a name has asked for it, the first word is its value
 abbrev pub given : List Text → Option Name → Option (List Given)
 given [] None = Some []
 given [] (Some name) = None
 given (word ∷ words) (Some name) = option_map (λ gs. (name, word) ∷ gs) (given words None)
 given (word ∷ words) None = at_word (word_of word) (given words)
 
+-- whether the names are the same
 abbrev pub is_same : Name → Name → Bool
 is_same Positional Positional = true
 is_same Workers Workers = true
@@ -111,15 +119,15 @@ is_same _ _ = false
 abbrev pub values : Name → List Given → List Text
 values name gs = map (λ (g : Given). g.1) (filter (λ (g : Given). is_same name g.0) gs)
 
--- ---- what the values of a name come to: each is given at most once
+-- ---- what the values of a name come to; no name has two
 
--- the name of the specification's file
+-- the name of the specification's file: just one
 abbrev pub spec_from : List Text → Option Text
 spec_from [] = None
 spec_from (word ∷ []) = file_of word
 spec_from (word ∷ other ∷ more) = None
 
--- how many stages the pipeline has
+-- how many stages the pipeline has: just one number
 abbrev pub count_from : List Text → Option ℕ
 count_from [] = None
 count_from (word ∷ []) = number_up_to 248 word
@@ -167,8 +175,7 @@ measure_of gs =
     Some (Measure count workers)))
     else None
 
--- what the texts of the words ask for: the first is the command, options and other words come
--- after it in any order
+-- the first word is the command, and options and other words come after it in any order
 abbrev pub asked : List Text → Option Command
 asked [] = None
 asked (first ∷ words) =

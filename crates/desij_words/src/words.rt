@@ -4,9 +4,10 @@ mod form;
 mod matches;
 #[cfg(test)]
 mod tests;
+mod word;
 
-ghost use Rattle.std.specs.Prelude.{◌≡◌, IfOk, IfSome, IsSome, OnErr, Some, codes, option_map};
-ghost use Rattle.std.specs.Option.{option_to_list};
+ghost use Rattle.std.specs.Prelude.{◌≡◌, IfOk, IfSome, IsSome, OnErr, Some, codes};
+ghost use Rattle.std.specs.Option.{option_map, option_to_list};
 ghost use Rattle.clap.specs.Words.{first_value, found_of, kind_of};
 ghost use Rattle.desij_words.specs.Words.{Command as Asked, command_of, workers_from};
 ghost use Rattle.desij_words.specs.Commands.{IsWithin, command_told};
@@ -14,10 +15,11 @@ ghost use Rattle.desij_words.specs.Matches.{HasValues, IsDecompose, IsMeasure};
 
 use clap::error::ErrorKind;
 use clap::{ArgMatches, Error};
-use form::{Action, action_of, number};
+use form::{Action, action_of};
 pub use matches::{decompose_matches, measure_matches};
 use std::alloc::Global;
 use stg_net::NoMemory;
+use word::number;
 
 /// What is printed where the words aren't of the form.
 pub const USAGE: &[u8] = b"\

@@ -6,23 +6,8 @@ use Rattle.desij_words.specs.declared.words.form.Action.{Action}
 use Rattle.desij_words.specs.declared.words.form.Action.TheVariants as action
 use Rattle.desij_words.specs.declared.words.form.Met.{Met}
 use Rattle.desij_words.specs.declared.words.form.Pass.{Pass}
-use Rattle.desij_words.specs.declared.words.form.Name.{Name as NameTold}
-use Rattle.desij_words.specs.declared.words.form.Name.TheVariants as name
-use Rattle.desij_words.specs.declared.words.form.Word.{Word as WordTold}
-use Rattle.desij_words.specs.declared.words.form.Word.TheVariants as word
+use Rattle.desij_words.specs.inner.Told.{name_told}
 use Rattle.desij_words.specs.Words.{Text, Name, Positional, Workers, Partition, Steps, Word, Gives, Asks, Unknown, is_file, number_up_to, word_of}
-
--- the name that the code's kind stands for
-abbrev pub name_told : NameTold → Name
-name_told name.Positional = Positional
-name_told name.Workers = Workers
-name_told name.Partition = Partition
-name_told name.Steps = Steps
-
-abbrev pub word_told : WordTold → Word
-word_told (word.Gives name value) = Gives (name_told name) value.now
-word_told (word.Asks name) = Asks (name_told name)
-word_told word.Unknown = Unknown
 
 -- whether a value of the name may stand in a word of the command
 abbrev pub allows : Action → Name → Text → Bool
@@ -42,9 +27,11 @@ has met Workers = met.workers
 has met Partition = met.partition
 has met Steps = met.steps
 
+-- no name has its value
 abbrev pub nothing_met : Met
 nothing_met = record { positional = false; workers = false; partition = false; steps = false }
 
+-- the name has its value too
 abbrev pub with_name : Met → Name → Met
 with_name met Positional = record met { positional = true }
 with_name met Workers = record met { workers = true }
@@ -56,15 +43,17 @@ abbrev pub met_with : Action → Met → Name → Text → Option Met
 met_with what met name value =
     if has met name || not (allows what name value) then None else Some (with_name met name)
 
--- what has its value, and which name asked for the next word
+-- what has its value, and what asked for the next word
 abbrev pub Place : Type 0
 Place = Met × Option Name
 
 abbrev pub place_of : Pass → Place
 place_of pass = (pass.met, option_map name_told pass.asked)
 
+-- the place after a word that is so
 abbrev pub place_at : Action → Met → Word → Option Place
-place_at what met (Gives name value) = option_map (λ (m : Met). (m, None)) (met_with what met name value)
+place_at what met (Gives name value) =
+    option_map (λ (m : Met). (m, None)) (met_with what met name value)
 place_at what met (Asks name) = Some (met, Some name)
 place_at what met Unknown = None
 
@@ -73,6 +62,7 @@ abbrev pub place_after : Action → Place → Text → Option Place
 place_after what place word =
     place_at what place.0 (option_map_or (λ (name : Name). Gives name word) place.1 (word_of word))
 
+-- whether the words may end there
 abbrev pub is_end : Place → Bool
 is_end place = place.0.positional && not (is_some place.1)
 
@@ -80,10 +70,15 @@ abbrev pub follow : Option Place → (Place → Bool) → Bool
 follow None rest = false
 follow (Some place) rest = rest place
 
--- whether the words may follow from there to the end
+-- whether the words may follow there, up to the end
 abbrev pub may_follow : Action → List Text → Place → Bool
 may_follow what [] place = is_end place
-may_follow what (word ∷ words) place = follow (place_after what place word) (may_follow what words)
+may_follow what (word ∷ words) place =
+    follow (place_after what place word) (may_follow what words)
+
+-- whether the words after the first are of the command's form
+abbrev pub is_of_form : Action → List Text → Bool
+is_of_form what words = may_follow what words (nothing_met, None)
 
 abbrev pub action_where : Bool → Action → Option Action
 action_where is_of_form what = if is_of_form then Some what else None
@@ -92,6 +87,8 @@ action_where is_of_form what = if is_of_form then Some what else None
 abbrev pub action_in : List Text → Option Action
 action_in [] = None
 action_in (first ∷ words) =
-    if bytes_eq first (codes "decompose") then action_where (may_follow action.Decompose words (nothing_met, None)) action.Decompose
-    else (if bytes_eq first (codes "measure") then action_where (may_follow action.Measure words (nothing_met, None)) action.Measure
+    if bytes_eq first (codes "decompose")
+    then action_where (is_of_form action.Decompose words) action.Decompose
+    else (if bytes_eq first (codes "measure")
+    then action_where (is_of_form action.Measure words) action.Measure
     else None)

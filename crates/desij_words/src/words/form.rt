@@ -2,13 +2,11 @@
 
 ghost use Rattle.std.specs.Prelude.{◌≡◌, None, map, option_map};
 ghost use Rattle.std.specs.String.{string_bytes};
-ghost use Rattle.std.specs.Option.{option_copied};
-ghost use Rattle.desij_words.specs.Words.{after, number_up_to, word_of};
-ghost use Rattle.desij_words.specs.Words.{begins_number as begins_number_text};
-ghost use Rattle.desij_words.specs.Words.{begins_with_dash as begins_with_dash_text};
-ghost use Rattle.desij_words.specs.Words.{is_file as is_file_text};
-ghost use Rattle.desij_words.specs.inner.Pass.{action_in, allows, may_follow, met_with, name_told, nothing_met};
-ghost use Rattle.desij_words.specs.inner.Pass.{place_after, place_of, word_told};
+ghost use Rattle.desij_words.specs.inner.Told.{name_told};
+ghost use Rattle.desij_words.specs.inner.Pass.{action_in, allows, may_follow, met_with};
+ghost use Rattle.desij_words.specs.inner.Pass.{nothing_met, place_after, place_of};
+
+use crate::words::word::{Name, Word, is_file, number, read_word};
 
 /// The first word.
 #[derive(Clone, Copy)]
@@ -17,92 +15,8 @@ pub enum Action {
     Measure,
 }
 
-/// What a word gives a value to: an option, or the place of a word that is no option's.
-#[derive(Clone, Copy)]
-pub enum Name {
-    Positional,
-    Workers,
-    Partition,
-    Steps,
-}
-
-// What a word is by itself.
-enum Word<'a> {
-    Gives(Name, &'a str),
-    Asks(Name),
-    Unknown,
-}
-
-// Which names have their value.
-#[derive(Clone, Copy)]
-struct Met {
-    positional: bool,
-    workers: bool,
-    partition: bool,
-    steps: bool,
-}
-
-fn begins_with_dash(word: &str) -> bool
-    ensures { result ≡ begins_with_dash_text word.now }
-{
-    let bytes = word.as_bytes();
-    !bytes.is_empty() && bytes[0] == b'-'
-}
-
-fn is_file(word: &str) -> bool
-    ensures { result ≡ is_file_text word.now }
-{
-    !word.is_empty() && !begins_with_dash(word)
-}
-
-fn begins_number(word: &str) -> bool
-    ensures { result ≡ begins_number_text word.now }
-{
-    let bytes = word.as_bytes();
-    !bytes.is_empty() && bytes[0] >= b'1' && bytes[0] <= b'9'
-}
-
-/// The number that the word writes, from 1 to the most.
-pub fn number(word: &str, most: u32) -> Option<u32>
-    ensures { result ≡ number_up_to most word.now }
-{
-    if !begins_number(word) {
-        return None;
-    }
-    let Ok(number) = word.parse::<u32>() else {
-        return None;
-    };
-    if number <= most { Some(number) } else { None }
-}
-
-// What follows the beginning.
-fn value_after<'a>(word: &'a str, beginning: &str) -> Option<&'a str>
-    ensures { option_copied result ≡ after beginning.now word.now }
-{
-    word.strip_prefix(beginning)
-}
-
-fn read_word(word: &str) -> Word<'_>
-    ensures { word_told result ≡ word_of word.now }
-{
-    if word == "--steps" {
-        Word::Gives(Name::Steps, "")
-    } else if word == "--workers" {
-        Word::Asks(Name::Workers)
-    } else if word == "--partition" {
-        Word::Asks(Name::Partition)
-    } else if let Some(value) = value_after(word, "--workers=") {
-        Word::Gives(Name::Workers, value)
-    } else if let Some(value) = value_after(word, "--partition=") {
-        Word::Gives(Name::Partition, value)
-    } else if begins_with_dash(word) {
-        Word::Unknown
-    } else {
-        Word::Gives(Name::Positional, word)
-    }
-}
-
 impl Action {
+    // Whether the value may stand in words of the command.
     fn allows(self, name: Name, value: &str) -> bool
         ensures { result ≡ allows self (name_told name) value.now }
     {
@@ -114,6 +28,15 @@ impl Action {
             (Action::Decompose, _) => is_file(value),
         }
     }
+}
+
+// Which names have their value.
+#[derive(Clone, Copy, Default)]
+struct Met {
+    positional: bool,
+    workers: bool,
+    partition: bool,
+    steps: bool,
 }
 
 impl Met {
@@ -141,21 +64,7 @@ impl Met {
     }
 }
 
-impl Met {
-    // No name has its value.
-    fn nothing() -> Met
-        ensures { result ≡ nothing_met }
-    {
-        Met {
-            positional: false,
-            workers: false,
-            partition: false,
-            steps: false,
-        }
-    }
-}
-
-// Where the pass stands between two words: what has its value, and which name asked for the next word.
+// Where the pass stands between two words: what has its value, and what asked for the next word.
 #[derive(Clone, Copy)]
 struct Pass {
     met: Met,
@@ -187,10 +96,11 @@ impl Pass {
 
 // Whether the words after the first are of the command's form.
 fn is_of_form(action: Action, words: &[String]) -> bool
-    ensures { result ≡ may_follow action (map (λ w. string_bytes w) words.now) (nothing_met, None) }
+    ensures { result
+        ≡ may_follow action (map (λ w. string_bytes w) words.now) (nothing_met, None) }
 {
     let mut pass = Pass {
-        met: Met::nothing(),
+        met: Met::default(),
         asked: None,
     };
     for word in words {
@@ -202,7 +112,7 @@ fn is_of_form(action: Action, words: &[String]) -> bool
     pass.met.positional && pass.asked.is_none()
 }
 
-/// The command of words of the form.
+/// The command of words of the form; `None` where they aren't of it.
 pub fn action_of(words: &[String]) -> Option<Action>
     ensures { result ≡ action_in (map (λ w. string_bytes w) words.now) }
 {

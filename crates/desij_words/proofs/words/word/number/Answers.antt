@@ -1,6 +1,6 @@
 use Rattle.std.proofs.Common.{◌≡◌, ◌∙◌, sym, ap, refl, nat_le, true, le-leb, Some, arith}
 use Rattle.desij_words.proofs.WordLemmas.{up_to, number-parsed}
-use Rattle.desij_words.proofs.words.form.number.Goals as goal
+use Rattle.desij_words.proofs.words.word.number.Goals as goal
 
 pub returns-in_default : goal.returns-in_default
 returns-in_default c =

@@ -1,0 +1,88 @@
+//! What single words are.
+
+ghost use Rattle.std.specs.Prelude.{◌≡◌};
+ghost use Rattle.std.specs.Option.{option_copied};
+ghost use Rattle.desij_words.specs.Words.{after, number_up_to, word_of};
+ghost use Rattle.desij_words.specs.Words.{begins_number as begins_number_text};
+ghost use Rattle.desij_words.specs.Words.{begins_with_dash as begins_with_dash_text};
+ghost use Rattle.desij_words.specs.Words.{is_file as is_file_text};
+ghost use Rattle.desij_words.specs.inner.Told.{word_told};
+
+/// What has a value: the place of a word that is no option's, or an option.
+#[derive(Clone, Copy)]
+pub enum Name {
+    Positional,
+    Workers,
+    Partition,
+    Steps,
+}
+
+/// What a word is by itself: it gives a value, or asks for one in the next word, or is neither.
+pub enum Word<'a> {
+    Gives(Name, &'a str),
+    Asks(Name),
+    Unknown,
+}
+
+fn begins_with_dash(word: &str) -> bool
+    ensures { result ≡ begins_with_dash_text word.now }
+{
+    let bytes = word.as_bytes();
+    !bytes.is_empty() && bytes[0] == b'-'
+}
+
+/// Whether the word may name a file.
+pub fn is_file(word: &str) -> bool
+    ensures { result ≡ is_file_text word.now }
+{
+    !word.is_empty() && !begins_with_dash(word)
+}
+
+fn begins_number(word: &str) -> bool
+    ensures { result ≡ begins_number_text word.now }
+{
+    let bytes = word.as_bytes();
+    !bytes.is_empty() && bytes[0] >= b'1' && bytes[0] <= b'9'
+}
+
+/// The number that the word writes, from 1 to the most.
+pub fn number(word: &str, most: u32) -> Option<u32>
+    ensures { result ≡ number_up_to most word.now }
+{
+    // `parse` by itself takes a sign and zeros in front.
+    if !begins_number(word) {
+        return None;
+    }
+    let Ok(number) = word.parse::<u32>() else {
+        return None;
+    };
+    if number <= most { Some(number) } else { None }
+}
+
+// What follows the beginning.
+fn value_after<'a>(word: &'a str, beginning: &str) -> Option<&'a str>
+    ensures { option_copied result ≡ after beginning.now word.now }
+{
+    word.strip_prefix(beginning)
+}
+
+/// What the word is.
+pub fn read_word(word: &str) -> Word<'_>
+    ensures { word_told result ≡ word_of word.now }
+{
+    if word == "--steps" {
+        Word::Gives(Name::Steps, "")
+    } else if word == "--workers" {
+        Word::Asks(Name::Workers)
+    } else if word == "--partition" {
+        Word::Asks(Name::Partition)
+    } else if let Some(value) = value_after(word, "--workers=") {
+        Word::Gives(Name::Workers, value)
+    } else if let Some(value) = value_after(word, "--partition=") {
+        Word::Gives(Name::Partition, value)
+    } else if begins_with_dash(word) {
+        Word::Unknown
+    } else {
+        Word::Gives(Name::Positional, word)
+    }
+}
