@@ -11,7 +11,7 @@ use Rattle.clap.proofs.OnLiterals.{clap_on_literals}
 use Rattle.clap.proofs.WalkLemmas.{first_value-rows, one_text-rows}
 use Rattle.desij_words.specs.declared.words.form.Action.{Action}
 use Rattle.desij_words.specs.declared.words.form.Action.TheVariants as action
-use Rattle.desij_words.specs.Words.{Text, Command, Decompose, Measure, Given, Name, Positional, Workers, Partition, Steps, given, values, is_empty, is_file, spec_from, count_from, workers_from, partition_from, steps_from, decompose_of, measure_of, asked}
+use Rattle.desij_words.specs.Words.{Text, Command, Decompose, Measure, Given, Argument, Positional, Workers, Partition, Steps, given_in, values_of, nothing_given, is_file_word, spec_from, count_from, workers_from, partition_from, steps_from, decompose_of, measure_of, asked_in}
 use Rattle.desij_words.specs.Matches.{HasValues, IsDecompose, IsMeasure, flag_text}
 use Rattle.desij_words.specs.inner.Pass.{has, nothing_met, may_follow, action_in}
 use Rattle.desij_words.proofs.WordLemmas.{none_some, some_same}
@@ -21,18 +21,18 @@ use Rattle.desij_words.proofs.ClapWalks.{app, Goal, uses, takes-all, settled_idl
 
 -- ---- the walk from the start
 
-nothing-used : (what : Action) (name : Name) → is_used (id_in what name) [] ≡ has nothing_met name
+nothing-used : (what : Action) (name : Argument) → is_used (id_in what name) [] ≡ has nothing_met name
 nothing-used what Positional = refl
 nothing-used what Workers = refl
 nothing-used what Partition = refl
 nothing-used what Steps = refl
 
-start : (what : Action) (rest : List Text) (gs : List Given) → may_follow what rest (nothing_met, None) ≡ true → given rest None ≡ Some gs → Goal what rest (uses what gs) (walk_from nothing_held)
+start : (what : Action) (rest : List Text) (gs : List Given) → may_follow what rest (nothing_met, None) ≡ true → given_in rest None ≡ Some gs → Goal what rest (uses what gs) (walk_from nothing_held)
 start action.Decompose rest gs e g = takes-all action.Decompose rest None tt nothing_met [] gs (walk_from nothing_held) e g (nothing-used action.Decompose) (None, [], refl, settled_idle action.Decompose [])
 start action.Measure rest gs e g = takes-all action.Measure rest None tt nothing_met [] gs (walk_from nothing_held) e g (nothing-used action.Measure) (None, [], refl, settled_idle action.Measure [])
 
 -- the command takes all words of the form
-pub takes-form : (what : Action) (name : Text) (rest : List Text) (gs : List Given) → may_follow what rest (nothing_met, None) ≡ true → given rest None ≡ Some gs → takes (app what) (name ∷ rest) ≡ true
+pub takes-form : (what : Action) (name : Text) (rest : List Text) (gs : List Given) → may_follow what rest (nothing_met, None) ≡ true → given_in rest None ≡ Some gs → takes (app what) (name ∷ rest) ≡ true
 unfolding clap_on_literals
 takes-form action.Decompose name rest gs e f =
     let g = start action.Decompose rest gs e f in
@@ -46,7 +46,7 @@ abbrev pub rows_found : Action → List Use → List Row
 rows_found action.Decompose us = cond (has_row (codes "steps") (rows_for us)) (rows_for us) (with_values (codes "steps") reading.AsWritten DefaultValue (codes "false" ∷ []) (rows_for us))
 rows_found action.Measure us = rows_for us
 
-rows-form : (what : Action) (name : Text) (rest : List Text) (gs : List Given) → may_follow what rest (nothing_met, None) ≡ true → given rest None ≡ Some gs → matches_of (app what) (name ∷ rest) ≡ rows_found what (uses what gs)
+rows-form : (what : Action) (name : Text) (rest : List Text) (gs : List Given) → may_follow what rest (nothing_met, None) ≡ true → given_in rest None ≡ Some gs → matches_of (app what) (name ∷ rest) ≡ rows_found what (uses what gs)
 unfolding clap_on_literals
 rows-form action.Decompose name rest gs e f =
     let g = start action.Decompose rest gs e f in
@@ -62,7 +62,7 @@ rows-form action.Measure name rest gs e f =
 
 -- ---- the values
 
-unshown : (name : Name) (o : Option Text) → bytes_eq (codes "steps") (id_in action.Decompose name) ≡ false → option_map (shown name) o ≡ o
+unshown : (name : Argument) (o : Option Text) → bytes_eq (codes "steps") (id_in action.Decompose name) ≡ false → option_map (shown name) o ≡ o
 unshown Positional None e = refl
 unshown Positional (Some v) e = refl
 unshown Workers None e = refl
@@ -71,16 +71,16 @@ unshown Partition None e = refl
 unshown Partition (Some v) e = refl
 unshown Steps o e = absurd (true≢false e)
 
-found-value : (what : Action) (name : Name) (gs : List Given) → bytes_eq (codes "steps") (id_in what name) ≡ false → bytes_eq (codes "steps") (id_in action.Decompose name) ≡ false → first_of (id_in what name) (rows_found what (uses what gs)) ≡ first (values name gs)
+found-value : (what : Action) (name : Argument) (gs : List Given) → bytes_eq (codes "steps") (id_in what name) ≡ false → bytes_eq (codes "steps") (id_in action.Decompose name) ≡ false → first_of (id_in what name) (rows_found what (uses what gs)) ≡ first (values_of name gs)
 found-value action.Decompose name gs e f =
     let us = uses action.Decompose gs in
     defaulted (id_in action.Decompose name) (codes "steps") (has_row (codes "steps") (rows_for us)) reading.AsWritten (codes "false" ∷ []) (rows_for us) e
-    ∙ value-found (id_in action.Decompose name) us ∙ value-first action.Decompose name gs ∙ unshown name (first (values name gs)) f
-found-value action.Measure name gs e f = value-found (id_in action.Measure name) (uses action.Measure gs) ∙ value-first action.Measure name gs ∙ unshown name (first (values name gs)) f
+    ∙ value-found (id_in action.Decompose name) us ∙ value-first action.Decompose name gs ∙ unshown name (first (values_of name gs)) f
+found-value action.Measure name gs e f = value-found (id_in action.Measure name) (uses action.Measure gs) ∙ value-first action.Measure name gs ∙ unshown name (first (values_of name gs)) f
 
 -- a parse with these rows has the values of the words
 record HasRows (what : Action) (gs : List Given) (found : Found) : Type 0 where
-  value : (name : Name) → bytes_eq (codes "steps") (id_in what name) ≡ false → bytes_eq (codes "steps") (id_in action.Decompose name) ≡ false → first_value found (id_in what name) ≡ first (values name gs)
+  value : (name : Argument) → bytes_eq (codes "steps") (id_in what name) ≡ false → bytes_eq (codes "steps") (id_in action.Decompose name) ≡ false → first_value found (id_in what name) ≡ first (values_of name gs)
   flag : one_text found (codes "steps") ≡ one_of (codes "steps") (rows_found what (uses what gs))
 
 has_rows : (what : Action) (gs : List Given) (found : Found) → rows_of found ≡ rows_found what (uses what gs) → HasRows what gs found
@@ -95,7 +95,7 @@ and_then-is (Some x) f y e = (x, refl, e)
 
 spec-first : (vs : List Text) (v : Text) → spec_from vs ≡ Some v → first vs ≡ Some v
 spec-first [] v e = e
-spec-first (w ∷ []) v e = by (is_file w) e
+spec-first (w ∷ []) v e = by (is_file_word w) e
   where
     by : (b : Bool) → cond b (Some w) None ≡ Some v → Some w ≡ Some v
     by true e = e
@@ -114,7 +114,7 @@ workers-first (w ∷ x ∷ vs) o h e = absurd (true≢false (sym (ap is_some e �
 
 partition-first : (vs : List Text) (p : Option Text) → partition_from vs ≡ Some p → first vs ≡ p
 partition-first [] p e = some_same None p e
-partition-first (w ∷ []) p e = by (is_file w) e
+partition-first (w ∷ []) p e = by (is_file_word w) e
   where
     by : (b : Bool) → option_map Some (cond b (Some w) None) ≡ Some p → Some w ≡ p
     by true e = some_same (Some w) p e
@@ -130,25 +130,25 @@ steps-first (w ∷ x ∷ vs) b e = absurd (none_some b e)
 decompose-values : (gs : List Given) (command : Command) (found : Found) → rows_of found ≡ rows_found action.Decompose (uses action.Decompose gs) → decompose_of gs ≡ Some command → HasValues found command
 decompose-values gs command found e made =
     let h = has_rows action.Decompose gs found e in
-    let s = and_then-is (spec_from (values Positional gs)) _ command made in
-    let n = and_then-is (workers_from (values Workers gs)) _ command s.2 in
-    let p = and_then-is (partition_from (values Partition gs)) _ command n.2 in
-    let f = and_then-is (steps_from (values Steps gs)) _ command p.2 in
+    let s = and_then-is (spec_from (values_of Positional gs)) _ command made in
+    let n = and_then-is (workers_from (values_of Workers gs)) _ command s.2 in
+    let p = and_then-is (partition_from (values_of Partition gs)) _ command n.2 in
+    let f = and_then-is (steps_from (values_of Steps gs)) _ command p.2 in
     let is : Decompose s.0 n.0 p.0 f.0 ≡ command = some_same (Decompose s.0 n.0 p.0 f.0) command f.2 in
     let told : HasValues found (Decompose s.0 n.0 p.0 f.0) = (
-      h.value Positional refl refl ∙ spec-first (values Positional gs) s.0 s.1,
-      ap (λ o. workers_from (option_to_list o)) (h.value Workers refl refl) ∙ workers-first (values Workers gs) (Some n.0) refl n.1,
-      h.value Partition refl refl ∙ partition-first (values Partition gs) p.0 p.1,
-      h.flag ∙ flag-found (codes "steps") (codes "false") (uses action.Decompose gs) refl ∙ ap (or_default (codes "false")) (value-first action.Decompose Steps gs) ∙ steps-first (values Steps gs) f.0 f.1,
+      h.value Positional refl refl ∙ spec-first (values_of Positional gs) s.0 s.1,
+      ap (λ o. workers_from (option_to_list o)) (h.value Workers refl refl) ∙ workers-first (values_of Workers gs) (Some n.0) refl n.1,
+      h.value Partition refl refl ∙ partition-first (values_of Partition gs) p.0 p.1,
+      h.flag ∙ flag-found (codes "steps") (codes "false") (uses action.Decompose gs) refl ∙ ap (or_default (codes "false")) (value-first action.Decompose Steps gs) ∙ steps-first (values_of Steps gs) f.0 f.1,
     ) in
     subst (HasValues found) is told
 
 pub measure-made : (gs : List Given) (command : Command) → measure_of gs ≡ Some command
-    → option_and_then (λ count. option_and_then (λ workers. Some (Measure count workers)) (workers_from (values Workers gs))) (count_from (values Positional gs)) ≡ Some command
-measure-made gs command made = by (is_empty (values Partition gs)) (is_empty (values Steps gs)) made
+    → option_and_then (λ count. option_and_then (λ workers. Some (Measure count workers)) (workers_from (values_of Workers gs))) (count_from (values_of Positional gs)) ≡ Some command
+measure-made gs command made = by (nothing_given (values_of Partition gs)) (nothing_given (values_of Steps gs)) made
   where
-    by : (a b : Bool) → cond (a && b) (option_and_then (λ count. option_and_then (λ workers. Some (Measure count workers)) (workers_from (values Workers gs))) (count_from (values Positional gs))) None ≡ Some command
-        → option_and_then (λ count. option_and_then (λ workers. Some (Measure count workers)) (workers_from (values Workers gs))) (count_from (values Positional gs)) ≡ Some command
+    by : (a b : Bool) → cond (a && b) (option_and_then (λ count. option_and_then (λ workers. Some (Measure count workers)) (workers_from (values_of Workers gs))) (count_from (values_of Positional gs))) None ≡ Some command
+        → option_and_then (λ count. option_and_then (λ workers. Some (Measure count workers)) (workers_from (values_of Workers gs))) (count_from (values_of Positional gs)) ≡ Some command
     by true true e = e
     by true false e = absurd (none_some command e)
     by false b e = absurd (none_some command e)
@@ -156,22 +156,22 @@ measure-made gs command made = by (is_empty (values Partition gs)) (is_empty (va
 measure-values : (gs : List Given) (command : Command) (found : Found) → rows_of found ≡ rows_found action.Measure (uses action.Measure gs) → measure_of gs ≡ Some command → HasValues found command
 measure-values gs command found e made =
     let h = has_rows action.Measure gs found e in
-    let s = and_then-is (count_from (values Positional gs)) _ command (measure-made gs command made) in
-    let n = and_then-is (workers_from (values Workers gs)) _ command s.2 in
+    let s = and_then-is (count_from (values_of Positional gs)) _ command (measure-made gs command made) in
+    let n = and_then-is (workers_from (values_of Workers gs)) _ command s.2 in
     let is : Measure s.0 n.0 ≡ command = some_same (Measure s.0 n.0) command n.2 in
     let told : HasValues found (Measure s.0 n.0) = (
-      ap (λ o. count_from (option_to_list o)) (h.value Positional refl refl) ∙ count-first (values Positional gs) (Some s.0) refl s.1,
-      ap (λ o. workers_from (option_to_list o)) (h.value Workers refl refl) ∙ workers-first (values Workers gs) (Some n.0) refl n.1,
+      ap (λ o. count_from (option_to_list o)) (h.value Positional refl refl) ∙ count-first (values_of Positional gs) (Some s.0) refl s.1,
+      ap (λ o. workers_from (option_to_list o)) (h.value Workers refl refl) ∙ workers-first (values_of Workers gs) (Some n.0) refl n.1,
     ) in
     subst (HasValues found) is told
 
 -- ---- words of the form
 
-pub asked-decompose : (words : List Text) (a : AsksFor decompose_of (codes "decompose") words) → asked words ≡ Some a.command
-asked-decompose words a = ap asked a.first ∙ ap (option_and_then decompose_of) a.gives ∙ a.made
+pub asked-decompose : (words : List Text) (a : AsksFor decompose_of (codes "decompose") words) → asked_in words ≡ Some a.command
+asked-decompose words a = ap asked_in a.first ∙ ap (option_and_then decompose_of) a.gives ∙ a.made
 
-pub asked-measure : (words : List Text) (a : AsksFor measure_of (codes "measure") words) → asked words ≡ Some a.command
-asked-measure words a = ap asked a.first ∙ ap (option_and_then measure_of) a.gives ∙ a.made
+pub asked-measure : (words : List Text) (a : AsksFor measure_of (codes "measure") words) → asked_in words ≡ Some a.command
+asked-measure words a = ap asked_in a.first ∙ ap (option_and_then measure_of) a.gives ∙ a.made
 
 decompose-follow : (words : List Text) (a : AsksFor decompose_of (codes "decompose") words) → may_follow action.Decompose a.rest (nothing_met, None) ≡ true
 decompose-follow words a = sym (asked-some action.Decompose decompose_of decompose-fine a.rest) ∙ rw (a.gives, a.made) refl
@@ -185,12 +185,12 @@ decompose-takes words a = subst (λ ws. takes (app action.Decompose) ws ≡ true
 pub measure-takes : (words : List Text) → AsksFor measure_of (codes "measure") words → takes (app action.Measure) words ≡ true
 measure-takes words a = subst (λ ws. takes (app action.Measure) ws ≡ true) (sym a.first) (takes-form action.Measure (codes "measure") a.rest a.gs (measure-follow words a) a.gives)
 
-pub decompose-has : (words : List Text) (found : Found) → AsksFor decompose_of (codes "decompose") words → rows_of found ≡ matches_of (app action.Decompose) words → IsSomeAnd (asked words) (HasValues found)
+pub decompose-has : (words : List Text) (found : Found) → AsksFor decompose_of (codes "decompose") words → rows_of found ≡ matches_of (app action.Decompose) words → IsSomeAnd (asked_in words) (HasValues found)
 decompose-has words found a e =
     let rows = e ∙ ap (matches_of (app action.Decompose)) a.first ∙ rows-form action.Decompose (codes "decompose") a.rest a.gs (decompose-follow words a) a.gives in
     subst (λ (o : Option Command). IsSomeAnd o (HasValues found)) (sym (asked-decompose words a)) (decompose-values a.gs a.command found rows a.made)
 
-pub measure-has : (words : List Text) (found : Found) → AsksFor measure_of (codes "measure") words → rows_of found ≡ matches_of (app action.Measure) words → IsSomeAnd (asked words) (HasValues found)
+pub measure-has : (words : List Text) (found : Found) → AsksFor measure_of (codes "measure") words → rows_of found ≡ matches_of (app action.Measure) words → IsSomeAnd (asked_in words) (HasValues found)
 measure-has words found a e =
     let rows = e ∙ ap (matches_of (app action.Measure)) a.first ∙ rows-form action.Measure (codes "measure") a.rest a.gs (measure-follow words a) a.gives in
     subst (λ (o : Option Command). IsSomeAnd o (HasValues found)) (sym (asked-measure words a)) (measure-values a.gs a.command found rows a.made)
@@ -199,23 +199,23 @@ measure-has words found a e =
 
 measured : (gs : List Given) (command : Command) → measure_of gs ≡ Some command → IsMeasure command
 measured gs command made =
-    let s = and_then-is (count_from (values Positional gs)) _ command (measure-made gs command made) in
-    let n = and_then-is (workers_from (values Workers gs)) _ command s.2 in
+    let s = and_then-is (count_from (values_of Positional gs)) _ command (measure-made gs command made) in
+    let n = and_then-is (workers_from (values_of Workers gs)) _ command s.2 in
     subst IsMeasure (some_same (Measure s.0 n.0) command n.2) tt
 
 decomposed : (gs : List Given) (command : Command) → decompose_of gs ≡ Some command → IsDecompose command
 decomposed gs command made =
-    let s = and_then-is (spec_from (values Positional gs)) _ command made in
-    let n = and_then-is (workers_from (values Workers gs)) _ command s.2 in
-    let p = and_then-is (partition_from (values Partition gs)) _ command n.2 in
-    let f = and_then-is (steps_from (values Steps gs)) _ command p.2 in
+    let s = and_then-is (spec_from (values_of Positional gs)) _ command made in
+    let n = and_then-is (workers_from (values_of Workers gs)) _ command s.2 in
+    let p = and_then-is (partition_from (values_of Partition gs)) _ command n.2 in
+    let f = and_then-is (steps_from (values_of Steps gs)) _ command p.2 in
     subst IsDecompose (some_same (Decompose s.0 n.0 p.0 f.0) command f.2) tt
 
 not_both : (command : Command) → IsDecompose command → IsMeasure command → ⊥
 not_both (Decompose spec workers partition steps) p q = q
 not_both (Measure count workers) p q = p
 
-pub decompose-asks : (words : List Text) → IsSomeAnd (asked words) IsDecompose → AsksFor decompose_of (codes "decompose") words
+pub decompose-asks : (words : List Text) → IsSomeAnd (asked_in words) IsDecompose → AsksFor decompose_of (codes "decompose") words
 decompose-asks words h = by (action_in words) (action_in-tells words)
   where
     by : (o : Option Action) → Tells words o → AsksFor decompose_of (codes "decompose") words
@@ -223,7 +223,7 @@ decompose-asks words h = by (action_in words) (action_in-tells words)
     by (Some action.Decompose) a = a
     by (Some action.Measure) a = absurd (not_both a.command (subst (λ (o : Option Command). IsSomeAnd o IsDecompose) (asked-measure words a) h) (measured a.gs a.command a.made))
 
-pub measure-asks : (words : List Text) → IsSomeAnd (asked words) IsMeasure → AsksFor measure_of (codes "measure") words
+pub measure-asks : (words : List Text) → IsSomeAnd (asked_in words) IsMeasure → AsksFor measure_of (codes "measure") words
 measure-asks words h = by (action_in words) (action_in-tells words)
   where
     by : (o : Option Action) → Tells words o → AsksFor measure_of (codes "measure") words
@@ -237,10 +237,10 @@ IsActionOf None command = command ≡ None
 IsActionOf (Some action.Decompose) command = IsSomeAnd command IsDecompose
 IsActionOf (Some action.Measure) command = IsSomeAnd command IsMeasure
 
-pub action-asked : (words : List Text) → IsActionOf (action_in words) (asked words)
+pub action-asked : (words : List Text) → IsActionOf (action_in words) (asked_in words)
 action-asked words = by (action_in words) (action_in-tells words)
   where
-    by : (o : Option Action) → Tells words o → IsActionOf o (asked words)
+    by : (o : Option Action) → Tells words o → IsActionOf o (asked_in words)
     by None e = e
     by (Some action.Decompose) a = subst (λ (o : Option Command). IsSomeAnd o IsDecompose) (sym (asked-decompose words a)) (decomposed a.gs a.command a.made)
     by (Some action.Measure) a = subst (λ (o : Option Command). IsSomeAnd o IsMeasure) (sym (asked-measure words a)) (measured a.gs a.command a.made)

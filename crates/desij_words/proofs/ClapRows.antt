@@ -14,7 +14,7 @@ use Rattle.clap.specs.declared.builder.value_parser.Reading.TheVariants as readi
 use Rattle.clap.proofs.WalkLemmas.{list_any-map, find-map}
 use Rattle.desij_words.specs.declared.words.form.Action.{Action}
 use Rattle.desij_words.specs.declared.words.form.Action.TheVariants as action
-use Rattle.desij_words.specs.Words.{Text, Given, Name, Positional, Workers, Partition, Steps, is_file, is_same, values}
+use Rattle.desij_words.specs.Words.{Text, Given, Argument, Positional, Workers, Partition, Steps, is_file_word, is_same, values_of}
 
 -- a value that is used for an argument of that id
 abbrev pub Use : Type 0
@@ -25,13 +25,13 @@ abbrev pub positional_id : Action → Text
 positional_id action.Decompose = codes "spec"
 positional_id action.Measure = codes "count"
 
-abbrev pub id_in : Action → Name → Text
+abbrev pub id_in : Action → Argument → Text
 id_in what Positional = positional_id what
 id_in what Workers = codes "workers"
 id_in what Partition = codes "partition"
 id_in what Steps = codes "steps"
 
-abbrev pub shown : Name → Text → Text
+abbrev pub shown : Argument → Text → Text
 shown Steps value = codes "true"
 shown Positional value = value
 shown Workers value = value
@@ -94,7 +94,7 @@ not_true : (b : Bool) → not b ≡ true → b ≡ false
 not_true true e = absurd (true≢false (sym e))
 not_true false e = refl
 
-pub file-plain : (w : Text) → is_file w ≡ true → IsPlain w
+pub file-plain : (w : Text) → is_file_word w ≡ true → IsPlain w
 file-plain [] e = absurd (true≢false (sym e))
 file-plain (c ∷ cs) e =
     let no_dash : (c == 45) ≡ false = not_true (c == 45) e in
@@ -178,7 +178,7 @@ flag-found id text us same = by (is_used id us) refl
 
 -- ---- the values of the names
 
-pub same-ids : (what : Action) (a b : Name) → bytes_eq (id_in what a) (id_in what b) ≡ is_same b a
+pub same-ids : (what : Action) (a b : Argument) → bytes_eq (id_in what a) (id_in what b) ≡ is_same b a
 same-ids action.Decompose Positional Positional = refl
 same-ids action.Decompose Workers Workers = refl
 same-ids action.Decompose Partition Partition = refl
@@ -190,7 +190,7 @@ same-ids action.Measure Partition Partition = refl
 same-ids action.Measure Steps Steps = refl
 same-ids action.Measure a b = refl
 
-is_same-shown : (a b : Name) (v : Text) → is_same b a ≡ true → shown a v ≡ shown b v
+is_same-shown : (a b : Argument) (v : Text) → is_same b a ≡ true → shown a v ≡ shown b v
 is_same-shown Positional Positional v e = refl
 is_same-shown Workers Workers v e = refl
 is_same-shown Partition Partition v e = refl
@@ -202,11 +202,11 @@ first [] = None
 first (v ∷ vs) = Some v
 
 -- what is used for the name is the first of its values
-pub value-first : (what : Action) (name : Name) (gs : List Given) → value_of (id_in what name) (map (use_in what) gs) ≡ option_map (shown name) (first (values name gs))
+pub value-first : (what : Action) (name : Argument) (gs : List Given) → value_of (id_in what name) (map (use_in what) gs) ≡ option_map (shown name) (first (values_of name gs))
 value-first what name [] = refl
 value-first what name (g ∷ gs) = rw (same-ids what g.0 name) (by (is_same name g.0) refl (value-first what name gs))
   where
-    by : (b : Bool) → is_same name g.0 ≡ b → value_of (id_in what name) (map (use_in what) gs) ≡ option_map (shown name) (first (values name gs))
+    by : (b : Bool) → is_same name g.0 ≡ b → value_of (id_in what name) (map (use_in what) gs) ≡ option_map (shown name) (first (values_of name gs))
         → option_map (λ (u : Use). u.1) (cond b (Some (use_in what g)) (find (λ (u : Use). bytes_eq u.0 (id_in what name)) (map (use_in what) gs))) ≡ option_map (shown name) (first (map (λ (g : Given). g.1) (cond b (g ∷ filter (λ (g : Given). is_same name g.0) gs) (filter (λ (g : Given). is_same name g.0) gs))))
     by true e later = ap Some (is_same-shown g.0 name g.1 e)
     by false e later = later

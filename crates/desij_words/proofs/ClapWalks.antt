@@ -17,8 +17,8 @@ use Rattle.stg_net.specs.Names.{is_digit}
 use Rattle.desij_words.specs.declared.words.form.Action.{Action}
 use Rattle.desij_words.specs.declared.words.form.Action.TheVariants as action
 use Rattle.desij_words.specs.declared.words.form.Met.{Met}
-use Rattle.desij_words.specs.Words.{Text, Given, Name, Positional, Workers, Partition, Steps, Word, Gives, Asks, Unknown, after, or_gives, begins_with_dash, begins_number, is_file, is_same, number_up_to, word_of, at_word, given}
-use Rattle.desij_words.specs.inner.Pass.{allows, has, with_name, Place, place_at, follow, may_follow}
+use Rattle.desij_words.specs.Words.{Text, Given, Argument, Positional, Workers, Partition, Steps, WordKind, Gives, Asks, Unknown, after_prefix, or_gives, begins_with_dash, begins_number, is_file_word, is_same, number_up_to, word_kind, at_word, given_in}
+use Rattle.desij_words.specs.inner.Pass.{allows, has, with_argument, PassPoint, point_at, follow, may_follow}
 use Rattle.desij_words.proofs.WordLemmas.{none_some, some_same, after_is}
 use Rattle.desij_words.proofs.FormLemmas.{and_false}
 use Rattle.desij_words.proofs.ClapRows.{Use, positional_id, id_in, use_in, is_used, or_true, or_none, rows_for, no_row, added, IsPlain, file-plain, same-ids}
@@ -65,12 +65,12 @@ pub record Idle (what : Action) (us : List Use) (p : Pending) (r : List Row) : T
   pub settles : settle_passes (rules what) false (held p r) ≡ true
   pub rows : settled_rows (rules what) p r ≡ rows_for us
 
-abbrev pub Stage : Action → Option Name → List Use → Walk → Type 0
+abbrev pub Stage : Action → Option Argument → List Use → Walk → Type 0
 Stage what None us w = (p : Pending) × (r : List Row) × (w ≡ standing what p r idle us) × Idle what us p r
 Stage what (Some name) us w = w ≡ standing what (Some (id_in what name, [])) (rows_for us) (option (id_in what name)) us
 
 -- a turn passes, and leaves the walk at that stage
-abbrev Turns : Action → Option Name → List Use → Walk → Text → Type 0
+abbrev Turns : Action → Option Argument → List Use → Walk → Text → Type 0
 Turns what wait us w word = (turn_passes (shape what) [] w word ≡ true) × Stage what wait us (walked (rules what) [] w word)
 
 pub settled_idle : (what : Action) (us : List Use) → Idle what us None (rows_for us)
@@ -195,48 +195,48 @@ word-idle action.Measure v us e = record { settles = rw (no_row (codes "count") 
 
 -- ---- what a word is
 
-abbrev GivesIn : Name → Text → Text → Type 0
+abbrev GivesIn : Argument → Text → Text → Type 0
 GivesIn Positional v w = v ≡ w
 GivesIn Workers v w = w ≡ codes "--workers=" ++ v
 GivesIn Partition v w = w ≡ codes "--partition=" ++ v
 GivesIn Steps v w = w ≡ codes "--steps"
 
-abbrev AsksIn : Name → Text → Type 0
+abbrev AsksIn : Argument → Text → Type 0
 AsksIn Positional w = ⊥
 AsksIn Workers w = w ≡ codes "--workers"
 AsksIn Partition w = w ≡ codes "--partition"
 AsksIn Steps w = ⊥
 
-abbrev Shape_of : Word → Text → Type 0
+abbrev Shape_of : WordKind → Text → Type 0
 Shape_of (Gives name v) w = GivesIn name v w
 Shape_of (Asks name) w = AsksIn name w
 Shape_of Unknown w = Unit {0}
 
-pick : (b : Bool) (x y : Word) (w : Text) → (b ≡ true → Shape_of x w) → Shape_of y w → Shape_of (cond b x y) w
+pick : (b : Bool) (x y : WordKind) (w : Text) → (b ≡ true → Shape_of x w) → Shape_of y w → Shape_of (cond b x y) w
 pick true x y w f g = f refl
 pick false x y w f g = g
 
-pick-gives : (name : Name) (o : Option Text) (next : Word) (w : Text) → ((v : Text) → o ≡ Some v → GivesIn name v w) → Shape_of next w → Shape_of (or_gives name o next) w
+pick-gives : (name : Argument) (o : Option Text) (next : WordKind) (w : Text) → ((v : Text) → o ≡ Some v → GivesIn name v w) → Shape_of next w → Shape_of (or_gives name o next) w
 pick-gives name None next w f g = g
 pick-gives name (Some v) next w f g = f v refl
 
-word-shape : (w : Text) → Shape_of (word_of w) w
+word-shape : (w : Text) → Shape_of (word_kind w) w
 word-shape w =
     let plain = cond (begins_with_dash w) Unknown (Gives Positional w) in
-    let with_partition = or_gives Partition (after (codes "--partition=") w) plain in
-    let with_workers = or_gives Workers (after (codes "--workers=") w) with_partition in
+    let with_partition = or_gives Partition (after_prefix (codes "--partition=") w) plain in
+    let with_workers = or_gives Workers (after_prefix (codes "--workers=") w) with_partition in
     let asks_partition = cond (bytes_eq w (codes "--partition")) (Asks Partition) with_workers in
     let asks_workers = cond (bytes_eq w (codes "--workers")) (Asks Workers) asks_partition in
     pick (bytes_eq w (codes "--steps")) (Gives Steps []) asks_workers w (λ e. (bytes_eq-Decides w (codes "--steps")).0 e)
     (pick (bytes_eq w (codes "--workers")) (Asks Workers) asks_partition w (λ e. (bytes_eq-Decides w (codes "--workers")).0 e)
     (pick (bytes_eq w (codes "--partition")) (Asks Partition) with_workers w (λ e. (bytes_eq-Decides w (codes "--partition")).0 e)
-    (pick-gives Workers (after (codes "--workers=") w) with_partition w (λ v e. after_is (codes "--workers=") w v e)
-    (pick-gives Partition (after (codes "--partition=") w) plain w (λ v e. after_is (codes "--partition=") w v e)
+    (pick-gives Workers (after_prefix (codes "--workers=") w) with_partition w (λ v e. after_is (codes "--workers=") w v e)
+    (pick-gives Partition (after_prefix (codes "--partition=") w) plain w (λ v e. after_is (codes "--partition=") w v e)
     (pick (begins_with_dash w) Unknown (Gives Positional w) w (λ e. tt) refl)))))
 
 -- ---- allowed values are no flags
 
-number-file : (w : Text) → begins_number w ≡ true → is_file w ≡ true
+number-file : (w : Text) → begins_number w ≡ true → is_file_word w ≡ true
 number-file [] e = e
 number-file (c ∷ cs) e = by (nat_le 49 c) refl e (c == 45) refl
   where
@@ -257,14 +257,14 @@ number-plain most w e = file-plain w (number-file w (number-begins most w e))
 
 -- ---- turns
 
-move_to : (what : Action) (wait : Option Name) (us : List Use) (seen word : Text) (w at : Walk) → word ≡ seen → w ≡ at → Turns what wait us at seen → Turns what wait us w word
+move_to : (what : Action) (wait : Option Argument) (us : List Use) (seen word : Text) (w at : Walk) → word ≡ seen → w ≡ at → Turns what wait us at seen → Turns what wait us w word
 move_to what wait us seen word w at e f t = subst (λ x. Turns what wait us w x) (sym e) (subst (λ x. Turns what wait us x seen) (sym f) t)
 
-abbrev after_use : Action → Name → Text → List Use → List Use
+abbrev after_use : Action → Argument → Text → List Use → List Use
 after_use what name v us = us ++ use_in what (name, v) ∷ []
 
 -- a word that gives a value
-turn-gives : (what : Action) (name : Name) (v word : Text) (us : List Use) (w : Walk) → GivesIn name v word → allows what name v ≡ true → is_used (id_in what name) us ≡ false → Stage what None us w → Turns what None (after_use what name v us) w word
+turn-gives : (what : Action) (name : Argument) (v word : Text) (us : List Use) (w : Walk) → GivesIn name v word → allows what name v ≡ true → is_used (id_in what name) us ≡ false → Stage what None us w → Turns what None (after_use what name v us) w word
 turn-gives action.Decompose Positional v word us w is good new s =
     let plain = file-plain v good in
     move_to d None (after_use d Positional v us) v word w (standing d s.0 s.1 idle us) (sym is) s.2
@@ -286,7 +286,7 @@ turn-gives action.Decompose Steps v word us w is good new s =
 turn-gives action.Measure Steps v word us w is good new s = absurd (true≢false (sym good))
 
 -- which options a command has
-abbrev pub HasOption : Action → Name → Type 0
+abbrev pub HasOption : Action → Argument → Type 0
 HasOption what Positional = ⊥
 HasOption what Workers = Unit {0}
 HasOption action.Decompose Partition = Unit {0}
@@ -294,7 +294,7 @@ HasOption action.Measure Partition = ⊥
 HasOption what Steps = ⊥
 
 -- an option whose value is the next word
-turn-asks : (what : Action) (name : Name) (word : Text) (us : List Use) (w : Walk) → HasOption what name → AsksIn name word → Stage what None us w → Turns what (Some name) us w word
+turn-asks : (what : Action) (name : Argument) (word : Text) (us : List Use) (w : Walk) → HasOption what name → AsksIn name word → Stage what None us w → Turns what (Some name) us w word
 turn-asks what Positional word us w offered is s = absurd is
 turn-asks what Workers word us w offered is s =
     move_to what (Some Workers) us (codes "--workers") word w (standing what s.0 s.1 idle us) is s.2
@@ -306,7 +306,7 @@ turn-asks action.Measure Partition word us w offered is s = absurd offered
 turn-asks what Steps word us w offered is s = absurd is
 
 -- the value that was asked for
-turn-value : (what : Action) (name : Name) (v : Text) (us : List Use) (w : Walk) → HasOption what name → allows what name v ≡ true → is_used (id_in what name) us ≡ false → Stage what (Some name) us w → Turns what None (after_use what name v us) w v
+turn-value : (what : Action) (name : Argument) (v : Text) (us : List Use) (w : Walk) → HasOption what name → allows what name v ≡ true → is_used (id_in what name) us ≡ false → Stage what (Some name) us w → Turns what None (after_use what name v us) w v
 turn-value what Positional v us w offered good new s = absurd offered
 turn-value action.Decompose Workers v us w offered good new s =
     let plain = number-plain 64 v good in
@@ -330,27 +330,27 @@ Goal what ws fin w = (walk_passes (shape what) [] w ws ≡ true) × Stage what N
 
 -- the names that have their value are those that are used
 abbrev pub Tracks : Action → Met → List Use → Type 0
-Tracks what met us = (name : Name) → is_used (id_in what name) us ≡ has met name
+Tracks what met us = (name : Argument) → is_used (id_in what name) us ≡ has met name
 
 abbrev pub uses : Action → List Given → List Use
 uses what gs = map (use_in what) gs
 
 -- the option that waits is one of the command's
-abbrev pub IsOffered : Action → Option Name → Type 0
+abbrev pub IsOffered : Action → Option Argument → Type 0
 IsOffered what None = Unit {0}
 IsOffered what (Some name) = HasOption what name
 
 abbrev pub Later : Action → List Text → Type 0
-Later what ws = (wait : Option Name) → IsOffered what wait → (met : Met) (us : List Use) (gs : List Given) (w : Walk) → may_follow what ws (met, wait) ≡ true → given ws wait ≡ Some gs → Tracks what met us → Stage what wait us w → Goal what ws (us ++ uses what gs) w
+Later what ws = (wait : Option Argument) → IsOffered what wait → (met : Met) (us : List Use) (gs : List Given) (w : Walk) → may_follow what ws (met, wait) ≡ true → given_in ws wait ≡ Some gs → Tracks what met us → Stage what wait us w → Goal what ws (us ++ uses what gs) w
 
-has-with : (met : Met) (name other : Name) → has (with_name met name) other ≡ (has met other || is_same other name)
+has-with : (met : Met) (name other : Argument) → has (with_argument met name) other ≡ (has met other || is_same other name)
 has-with met Positional Positional = sym (or_true met.positional)
 has-with met Workers Workers = sym (or_true met.workers)
 has-with met Partition Partition = sym (or_true met.partition)
 has-with met Steps Steps = sym (or_true met.steps)
 has-with met name other = sym (or_none (has met other))
 
-tracks-more : (what : Action) (met : Met) (us : List Use) (name : Name) (v : Text) → Tracks what met us → Tracks what (with_name met name) (after_use what name v us)
+tracks-more : (what : Action) (met : Met) (us : List Use) (name : Argument) (v : Text) → Tracks what met us → Tracks what (with_argument met name) (after_use what name v us)
 tracks-more what met us name v tracks = λ other.
     list_any-append (λ (u : Use). bytes_eq u.0 (id_in what other)) us (use_in what (name, v) ∷ [])
     ∙ ap₂ (λ a b. a || (b || false)) (tracks other) (same-ids what name other)
@@ -358,15 +358,15 @@ tracks-more what met us name v tracks = λ other.
     ∙ sym (has-with met name other)
 
 -- one more value, where it may follow
-record OneMore (what : Action) (met : Met) (name : Name) (v : Text) (rest : Place → Bool) : Type 0 where
+record OneMore (what : Action) (met : Met) (name : Argument) (v : Text) (rest : PassPoint → Bool) : Type 0 where
   new : has met name ≡ false
   good : allows what name v ≡ true
-  later : rest (with_name met name, None) ≡ true
+  later : rest (with_argument met name, None) ≡ true
 
-one-more : (what : Action) (met : Met) (name : Name) (v : Text) (rest : Place → Bool) → follow (place_at what met (Gives name v)) rest ≡ true → OneMore what met name v rest
+one-more : (what : Action) (met : Met) (name : Argument) (v : Text) (rest : PassPoint → Bool) → follow (point_at what met (Gives name v)) rest ≡ true → OneMore what met name v rest
 one-more what met name v rest e = by (has met name) (allows what name v) refl refl e
   where
-    by : (a b : Bool) → has met name ≡ a → allows what name v ≡ b → follow (option_map (λ (n : Met). (n, None)) (cond (a || not b) None (Some (with_name met name)))) rest ≡ true → OneMore what met name v rest
+    by : (a b : Bool) → has met name ≡ a → allows what name v ≡ b → follow (option_map (λ (n : Met). (n, None)) (cond (a || not b) None (Some (with_argument met name)))) rest ≡ true → OneMore what met name v rest
     by true b p q e = absurd (true≢false (sym e))
     by false true p q e = record { new = p; good = q; later = e }
     by false false p q e = absurd (true≢false (sym e))
@@ -385,21 +385,21 @@ unfolding walk_passes
 nil-passes what w = refl
 
 -- a value was given, and the words go on
-step-gives : (what : Action) (name : Name) (v word : Text) (ws : List Text) (met : Met) (us : List Use) (gs : List Given) (w : Walk)
+step-gives : (what : Action) (name : Argument) (v word : Text) (ws : List Text) (met : Met) (us : List Use) (gs : List Given) (w : Walk)
     → ((good : allows what name v ≡ true) → (new : is_used (id_in what name) us ≡ false) → Turns what None (after_use what name v us) w word)
-    → follow (place_at what met (Gives name v)) (may_follow what ws) ≡ true → option_map (λ (more : List Given). (name, v) ∷ more) (given ws None) ≡ Some gs
+    → follow (point_at what met (Gives name v)) (may_follow what ws) ≡ true → option_map (λ (more : List Given). (name, v) ∷ more) (given_in ws None) ≡ Some gs
     → Tracks what met us → Later what ws → Goal what (word ∷ ws) (us ++ uses what gs) w
 step-gives what name v word ws met us gs w turn e g tracks later =
     let o = one-more what met name v (may_follow what ws) e in
-    let f = in_front (name, v) (given ws None) gs g in
+    let f = in_front (name, v) (given_in ws None) gs g in
     let t = turn o.good (tracks name ∙ o.new) in
     let us' : List Use = after_use what name v us in
-    let after : Goal what ws (us' ++ uses what f.0) (walked (rules what) [] w word) = later None tt (with_name met name) us' f.0 (walked (rules what) [] w word) o.later f.1 (tracks-more what met us name v tracks) t.1 in
+    let after : Goal what ws (us' ++ uses what f.0) (walked (rules what) [] w word) = later None tt (with_argument met name) us' f.0 (walked (rules what) [] w word) o.later f.1 (tracks-more what met us name v tracks) t.1 in
     let ends : us' ++ uses what f.0 ≡ us ++ uses what gs = append_assoc us (use_in what (name, v) ∷ []) (uses what f.0) ∙ ap (λ (more : List Given). us ++ uses what more) (sym f.2) in
     join what word ws (us ++ uses what gs) w t.0 (subst (λ fin. Goal what ws fin (walked (rules what) [] w word)) ends after)
 
 -- a command without the option gives it no value
-offers : (what : Action) (name : Name) (word : Text) (ws : List Text) (met : Met) → AsksIn name word → may_follow what ws (met, Some name) ≡ true → HasOption what name
+offers : (what : Action) (name : Argument) (word : Text) (ws : List Text) (met : Met) → AsksIn name word → may_follow what ws (met, Some name) ≡ true → HasOption what name
 offers what Positional word ws met is e = absurd is
 offers what Workers word ws met is e = tt
 offers action.Decompose Partition word ws met is e = tt
@@ -409,8 +409,8 @@ offers action.Measure Partition word (v ∷ ws) met is e =
     absurd (true≢false (sym o.good))
 offers what Steps word ws met is e = absurd is
 
-at_none : (what : Action) (x : Word) (word : Text) (ws : List Text) (met : Met) (us : List Use) (gs : List Given) (w : Walk) → Shape_of x word
-    → follow (place_at what met x) (may_follow what ws) ≡ true → at_word x (given ws) ≡ Some gs → Tracks what met us → Stage what None us w → Later what ws → Goal what (word ∷ ws) (us ++ uses what gs) w
+at_none : (what : Action) (x : WordKind) (word : Text) (ws : List Text) (met : Met) (us : List Use) (gs : List Given) (w : Walk) → Shape_of x word
+    → follow (point_at what met x) (may_follow what ws) ≡ true → at_word x (given_in ws) ≡ Some gs → Tracks what met us → Stage what None us w → Later what ws → Goal what (word ∷ ws) (us ++ uses what gs) w
 at_none what (Gives name v) word ws met us gs w is e g tracks s later =
     step-gives what name v word ws met us gs w (λ good new. turn-gives what name v word us w is good new s) e g tracks later
 at_none what (Asks name) word ws met us gs w is e g tracks s later =
@@ -423,6 +423,6 @@ pub takes-all : (what : Action) (ws : List Text) → Later what ws
 takes-all what [] None offered met us gs w e g tracks s =
     (nil-passes what w, subst (λ (more : List Given). Stage what None (us ++ uses what more) w) (some_same [] gs g) (subst (λ fin. Stage what None fin w) (sym (append-nil us)) s))
 takes-all what [] (Some name) offered met us gs w e g tracks s = absurd (none_some gs g)
-takes-all what (word ∷ ws) None offered met us gs w e g tracks s = at_none what (word_of word) word ws met us gs w (word-shape word) e g tracks s (takes-all what ws)
+takes-all what (word ∷ ws) None offered met us gs w e g tracks s = at_none what (word_kind word) word ws met us gs w (word-shape word) e g tracks s (takes-all what ws)
 takes-all what (word ∷ ws) (Some name) offered met us gs w e g tracks s =
     step-gives what name word word ws met us gs w (λ good new. turn-value what name word us w offered good new s) e g tracks (takes-all what ws)

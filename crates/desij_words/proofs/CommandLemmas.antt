@@ -13,8 +13,8 @@ use Rattle.stg_net.specs.Names.{is_digit}
 use Rattle.desij_words.specs.declared.words.Command.{Command as Told}
 use Rattle.desij_words.specs.declared.words.form.Action.{Action}
 use Rattle.desij_words.specs.declared.words.form.Action.TheVariants as action
-use Rattle.desij_words.specs.Words.{Text, Command, Decompose, Measure, Given, Positional, Workers, Partition, Steps, begins_number, number_up_to, values, spec_from, count_from, workers_from, partition_from, steps_from, decompose_of, measure_of, asked, command_of}
-use Rattle.desij_words.specs.Commands.{command_told, IsWithin}
+use Rattle.desij_words.specs.Words.{Text, Command, Decompose, Measure, Given, Positional, Workers, Partition, Steps, begins_number, number_up_to, values_of, spec_from, count_from, workers_from, partition_from, steps_from, decompose_of, measure_of, asked_in, command_of}
+use Rattle.desij_words.specs.Commands.{command_told, IsInBounds}
 use Rattle.desij_words.specs.inner.Pass.{action_in}
 use Rattle.desij_words.proofs.WordLemmas.{none_some, some_same}
 use Rattle.desij_words.proofs.FormLemmas.{Tells, action_in-tells}
@@ -61,35 +61,35 @@ count-within (v ∷ w ∷ vs) n e = absurd (none_some n e)
 
 -- ---- commands are within their bounds
 
-decompose-within : (gs : List Given) (command : Command) → decompose_of gs ≡ Some command → IsWithin command
+decompose-within : (gs : List Given) (command : Command) → decompose_of gs ≡ Some command → IsInBounds command
 decompose-within gs command made =
-    let s = and_then-is (spec_from (values Positional gs)) _ command made in
-    let n = and_then-is (workers_from (values Workers gs)) _ command s.2 in
-    let p = and_then-is (partition_from (values Partition gs)) _ command n.2 in
-    let f = and_then-is (steps_from (values Steps gs)) _ command p.2 in
-    subst IsWithin (some_same (Decompose s.0 n.0 p.0 f.0) command f.2) (workers-within (values Workers gs) n.0 n.1)
+    let s = and_then-is (spec_from (values_of Positional gs)) _ command made in
+    let n = and_then-is (workers_from (values_of Workers gs)) _ command s.2 in
+    let p = and_then-is (partition_from (values_of Partition gs)) _ command n.2 in
+    let f = and_then-is (steps_from (values_of Steps gs)) _ command p.2 in
+    subst IsInBounds (some_same (Decompose s.0 n.0 p.0 f.0) command f.2) (workers-within (values_of Workers gs) n.0 n.1)
 
-measure-within : (gs : List Given) (command : Command) → measure_of gs ≡ Some command → IsWithin command
+measure-within : (gs : List Given) (command : Command) → measure_of gs ≡ Some command → IsInBounds command
 measure-within gs command made =
-    let s = and_then-is (count_from (values Positional gs)) _ command (measure-made gs command made) in
-    let n = and_then-is (workers_from (values Workers gs)) _ command s.2 in
-    let w = workers-within (values Workers gs) n.0 n.1 in
-    subst IsWithin (some_same (Measure s.0 n.0) command n.2) (count-within (values Positional gs) s.0 s.1, w.0, w.1)
+    let s = and_then-is (count_from (values_of Positional gs)) _ command (measure-made gs command made) in
+    let n = and_then-is (workers_from (values_of Workers gs)) _ command s.2 in
+    let w = workers-within (values_of Workers gs) n.0 n.1 in
+    subst IsInBounds (some_same (Measure s.0 n.0) command n.2) (count-within (values_of Positional gs) s.0 s.1, w.0, w.1)
 
-asked-within : (words : List Text) → IfSome (asked words) IsWithin
+asked-within : (words : List Text) → IfSome (asked_in words) IsInBounds
 asked-within words = by (action_in words) (action_in-tells words)
   where
-    by : (o : Option Action) → Tells words o → IfSome (asked words) IsWithin
-    by None e = subst (λ (r : Option Command). IfSome r IsWithin) (sym e) tt
-    by (Some action.Decompose) a = subst (λ (r : Option Command). IfSome r IsWithin) (sym (asked-decompose words a)) (decompose-within a.gs a.command a.made)
-    by (Some action.Measure) a = subst (λ (r : Option Command). IfSome r IsWithin) (sym (asked-measure words a)) (measure-within a.gs a.command a.made)
+    by : (o : Option Action) → Tells words o → IfSome (asked_in words) IsInBounds
+    by None e = subst (λ (r : Option Command). IfSome r IsInBounds) (sym e) tt
+    by (Some action.Decompose) a = subst (λ (r : Option Command). IfSome r IsInBounds) (sym (asked-decompose words a)) (decompose-within a.gs a.command a.made)
+    by (Some action.Measure) a = subst (λ (r : Option Command). IfSome r IsInBounds) (sym (asked-measure words a)) (measure-within a.gs a.command a.made)
 
 -- what was read of the words is within its bounds
-pub told-within : (words : List (String Global)) (r : Option Told) → option_map command_told r ≡ command_of words → IfSome r (λ (c : Told). IsWithin (command_told c))
+pub told-within : (words : List (String Global)) (r : Option Told) → option_map command_told r ≡ command_of words → IfSome r (λ (c : Told). IsInBounds (command_told c))
 unfolding command_of
-told-within words r e = by r (subst (λ (o : Option Command). IfSome o IsWithin) (sym e) (asked-within (map (λ (w : String Global). string_bytes w) words)))
+told-within words r e = by r (subst (λ (o : Option Command). IfSome o IsInBounds) (sym e) (asked-within (map (λ (w : String Global). string_bytes w) words)))
   where
-    by : (r : Option Told) → IfSome (option_map command_told r) IsWithin → IfSome r (λ (c : Told). IsWithin (command_told c))
+    by : (r : Option Told) → IfSome (option_map command_told r) IsInBounds → IfSome r (λ (c : Told). IsInBounds (command_told c))
     by None h = tt
     by (Some c) h = h
 

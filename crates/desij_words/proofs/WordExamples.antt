@@ -1,31 +1,31 @@
 -- Worked words, computed.
 use Rattle.std.proofs.Common.{◌≡◌, [], ◌∷◌, None, Some, List, refl, codes, true, false, map}
-use Rattle.desij_words.specs.Words.{Text, Decompose, Measure, asked, usage}
+use Rattle.desij_words.specs.Words.{Text, Decompose, Measure, asked_in, usage}
 use Rattle.desij_words.specs.declared.words.TheConstants.{USAGE}
 
-plain : asked (codes "decompose" ∷ codes "a.g" ∷ []) ≡ Some (Decompose (codes "a.g") 1 None false)
+plain : asked_in (codes "decompose" ∷ codes "a.g" ∷ []) ≡ Some (Decompose (codes "a.g") 1 None false)
 plain = refl
 
-attached : asked (codes "decompose" ∷ codes "--workers=2" ∷ codes "a.g" ∷ []) ≡ Some (Decompose (codes "a.g") 2 None false)
+attached : asked_in (codes "decompose" ∷ codes "--workers=2" ∷ codes "a.g" ∷ []) ≡ Some (Decompose (codes "a.g") 2 None false)
 attached = refl
 
-all_in_one_order : asked (codes "decompose" ∷ codes "--steps" ∷ codes "--partition" ∷ codes "p" ∷ codes "a.g" ∷ codes "--workers" ∷ codes "64" ∷ []) ≡ Some (Decompose (codes "a.g") 64 (Some (codes "p")) true)
+all_in_one_order : asked_in (codes "decompose" ∷ codes "--steps" ∷ codes "--partition" ∷ codes "p" ∷ codes "a.g" ∷ codes "--workers" ∷ codes "64" ∷ []) ≡ Some (Decompose (codes "a.g") 64 (Some (codes "p")) true)
 all_in_one_order = refl
 
-all_in_another : asked (codes "decompose" ∷ codes "a.g" ∷ codes "--workers" ∷ codes "10" ∷ codes "--partition=p=q" ∷ codes "--steps" ∷ []) ≡ Some (Decompose (codes "a.g") 10 (Some (codes "p=q")) true)
+all_in_another : asked_in (codes "decompose" ∷ codes "a.g" ∷ codes "--workers" ∷ codes "10" ∷ codes "--partition=p=q" ∷ codes "--steps" ∷ []) ≡ Some (Decompose (codes "a.g") 10 (Some (codes "p=q")) true)
 all_in_another = refl
 
-a_spec_named_as_the_command : asked (codes "decompose" ∷ codes "decompose" ∷ []) ≡ Some (Decompose (codes "decompose") 1 None false)
+a_spec_named_as_the_command : asked_in (codes "decompose" ∷ codes "decompose" ∷ []) ≡ Some (Decompose (codes "decompose") 1 None false)
 a_spec_named_as_the_command = refl
 
-measured : asked (codes "measure" ∷ codes "248" ∷ []) ≡ Some (Measure 248 1)
+measured : asked_in (codes "measure" ∷ codes "248" ∷ []) ≡ Some (Measure 248 1)
 measured = refl
 
-measured_by_workers : asked (codes "measure" ∷ codes "--workers" ∷ codes "3" ∷ codes "1" ∷ []) ≡ Some (Measure 1 3)
+measured_by_workers : asked_in (codes "measure" ∷ codes "--workers" ∷ codes "3" ∷ codes "1" ∷ []) ≡ Some (Measure 1 3)
 measured_by_workers = refl
 
 abbrev AllRefused : List (List Text) → Type 0
-AllRefused rows = map asked rows ≡ map (λ (r : List Text). None) rows
+AllRefused rows = map asked_in rows ≡ map (λ (r : List Text). None) rows
 
 no_form : AllRefused (
     []

@@ -8,7 +8,7 @@ use Rattle.std.specs.Str.Pattern.{FindsTextPrefix, StripsPrefix}
 use Rattle.std.proofs.lemmas.Bool.{eqb-true, leb-true}
 use Rattle.std.proofs.lemmas.Str.Parse.{IsNumeralModel, numerals_by_value, parse_plain}
 use Rattle.stg_net.specs.Names.{is_digit}
-use Rattle.desij_words.specs.Words.{Text, after, begins_number, number_up_to}
+use Rattle.desij_words.specs.Words.{Text, after_prefix, begins_number, number_up_to}
 
 pub none_some : {A : Type 0} (x : A) → ◌≡◌ {A = Option A} None (Some x) → ⊥
 none_some x e = true≢false (sym (ap is_some e))
@@ -18,16 +18,16 @@ some_same x y e = cc
 
 -- ---- what follows a beginning
 
-pub after_is : (beginning word value : Text) → after beginning word ≡ Some value → word ≡ beginning ++ value
+pub after_is : (beginning word value : Text) → after_prefix beginning word ≡ Some value → word ≡ beginning ++ value
 after_is [] w v e = some_same w v e
 after_is (c ∷ cs) [] v e = absurd (none_some v e)
 after_is (c ∷ cs) (x ∷ w) v e = by (c == x) refl e (after_is cs w v)
   where
-    by : (b : Bool) → (c == x) ≡ b → cond b (after cs w) None ≡ Some v → (after cs w ≡ Some v → w ≡ cs ++ v) → x ∷ w ≡ c ∷ (cs ++ v)
+    by : (b : Bool) → (c == x) ≡ b → cond b (after_prefix cs w) None ≡ Some v → (after_prefix cs w ≡ Some v → w ≡ cs ++ v) → x ∷ w ≡ c ∷ (cs ++ v)
     by true same e later = ap₂ (λ (y : ℕ) (ys : Text). y ∷ ys) (sym (eqb-true c x same)) (later e)
     by false differ e later = absurd (none_some v e)
 
-pub after-append : (beginning value : Text) → after beginning (beginning ++ value) ≡ Some value
+pub after-append : (beginning value : Text) → after_prefix beginning (beginning ++ value) ≡ Some value
 after-append [] v = refl
 after-append (c ∷ cs) v = rw (eq-eqb c c refl) (after-append cs v)
 
@@ -36,15 +36,15 @@ drop-nothing [] = refl
 drop-nothing (x ∷ xs) = refl
 
 -- `strip_prefix` gives it
-pub after-stripped : (n s : Text) (r : Option (Bor Text)) → MatchOption r (FindsTextPrefix n s None) (λ x. StripsPrefix (FindsTextPrefix n) s x.now) → option_copied r ≡ after n s
-after-stripped n s None h = by (after n s) refl
+pub after-stripped : (n s : Text) (r : Option (Bor Text)) → MatchOption r (FindsTextPrefix n s None) (λ x. StripsPrefix (FindsTextPrefix n) s x.now) → option_copied r ≡ after_prefix n s
+after-stripped n s None h = by (after_prefix n s) refl
   where
-    by : (o : Option Text) → after n s ≡ o → None ≡ o
+    by : (o : Option Text) → after_prefix n s ≡ o → None ≡ o
     by None e = refl
     by (Some v) e = absurd (h v (drop-nothing s ∙ after_is n s v e))
 after-stripped n s (Some x) h =
     let found : s ≡ n ++ drop h.0 s = h.1.1 in
-    ap Some h.2 ∙ sym (after-append n (drop h.0 s)) ∙ ap (after n) (sym found)
+    ap Some h.2 ∙ sym (after-append n (drop h.0 s)) ∙ ap (after_prefix n) (sym found)
 
 -- ---- numbers
 

@@ -12,6 +12,6 @@ command_told (told.Decompose spec workers partition steps) =
 command_told (told.Measure count workers) = Measure count workers
 
 -- the command's numbers are within their bounds
-abbrev pub IsWithin : Command → Type 0
-IsWithin (Decompose spec workers partition steps) = (1 ≤ workers) × (workers ≤ 64)
-IsWithin (Measure count workers) = ((1 ≤ count) × (count ≤ 248)) × (1 ≤ workers) × (workers ≤ 64)
+abbrev pub IsInBounds : Command → Type 0
+IsInBounds (Decompose spec workers partition steps) = (1 ≤ workers) × (workers ≤ 64)
+IsInBounds (Measure count workers) = ((1 ≤ count) × (count ≤ 248)) × (1 ≤ workers) × (workers ≤ 64)

@@ -10,7 +10,7 @@ ghost use Rattle.std.specs.Prelude.{◌≡◌, IfOk, IfSome, IsSome, OnErr, Some
 ghost use Rattle.std.specs.Option.{option_map, option_to_list};
 ghost use Rattle.clap.specs.Words.{first_value, found_of, kind_of};
 ghost use Rattle.desij_words.specs.Words.{Command as Asked, command_of, workers_from};
-ghost use Rattle.desij_words.specs.Commands.{IsWithin, command_told};
+ghost use Rattle.desij_words.specs.Commands.{IsInBounds, command_told};
 ghost use Rattle.desij_words.specs.Matches.{HasValues, IsDecompose, IsMeasure};
 
 use clap::error::ErrorKind;
@@ -54,7 +54,7 @@ pub enum Command<'a> {
 pub fn read_command<'a>(alloc: Global, words: &'a [String]) -> Result<Option<Command<'a>>, NoMemory>
     ensures value { IfOk result (λ command.
         option_map command_told command ≡ command_of words.entry.now) }
-    ensures within { IfOk result (λ command. IfSome command (λ c. IsWithin (command_told c))) }
+    ensures within { IfOk result (λ command. IfSome command (λ c. IsInBounds (command_told c))) }
     ensures no_memory { OnErr result (IsSome (command_of words.entry.now)) }
 {
     match action_of(words) {

@@ -1,18 +1,18 @@
--- What the code's names and words stand for.
-use Rattle.desij_words.specs.declared.words.word.Name.{Name as NameTold}
-use Rattle.desij_words.specs.declared.words.word.Name.TheVariants as name
-use Rattle.desij_words.specs.declared.words.word.Word.{Word as WordTold}
-use Rattle.desij_words.specs.declared.words.word.Word.TheVariants as word
-use Rattle.desij_words.specs.Words.{Name, Positional, Workers, Partition, Steps, Word, Gives, Asks, Unknown}
+-- What the code's arguments and words stand for.
+use Rattle.desij_words.specs.declared.words.word.Argument.{Argument as ArgumentTold}
+use Rattle.desij_words.specs.declared.words.word.Argument.TheVariants as argument
+use Rattle.desij_words.specs.declared.words.word.WordKind.{WordKind as WordKindTold}
+use Rattle.desij_words.specs.declared.words.word.WordKind.TheVariants as word
+use Rattle.desij_words.specs.Words.{Argument, Positional, Workers, Partition, Steps, WordKind, Gives, Asks, Unknown}
 
-abbrev pub name_told : NameTold → Name
-name_told name.Positional = Positional
-name_told name.Workers = Workers
-name_told name.Partition = Partition
-name_told name.Steps = Steps
+abbrev pub argument_told : ArgumentTold → Argument
+argument_told argument.Positional = Positional
+argument_told argument.Workers = Workers
+argument_told argument.Partition = Partition
+argument_told argument.Steps = Steps
 
 -- the word, with the text that it borrows
-abbrev pub word_told : WordTold → Word
-word_told (word.Gives name value) = Gives (name_told name) value.now
-word_told (word.Asks name) = Asks (name_told name)
+abbrev pub word_told : WordKindTold → WordKind
+word_told (word.Gives argument value) = Gives (argument_told argument) value.now
+word_told (word.Asks argument) = Asks (argument_told argument)
 word_told word.Unknown = Unknown

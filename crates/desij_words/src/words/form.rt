@@ -2,11 +2,11 @@
 
 ghost use Rattle.std.specs.Prelude.{◌≡◌, None, map, option_map};
 ghost use Rattle.std.specs.String.{string_bytes};
-ghost use Rattle.desij_words.specs.inner.Told.{name_told};
+ghost use Rattle.desij_words.specs.inner.Told.{argument_told};
 ghost use Rattle.desij_words.specs.inner.Pass.{action_in, allows, may_follow, met_with};
-ghost use Rattle.desij_words.specs.inner.Pass.{nothing_met, place_after, place_of};
+ghost use Rattle.desij_words.specs.inner.Pass.{nothing_met, point_after, point_of};
 
-use crate::words::word::{Name, Word, is_file, number, read_word};
+use crate::words::word::{Argument, WordKind, is_file, number, read_word};
 
 /// The first word.
 #[derive(Clone, Copy)]
@@ -17,20 +17,20 @@ pub enum Action {
 
 impl Action {
     // Whether the value may stand in words of the command.
-    fn allows(self, name: Name, value: &str) -> bool
-        ensures { result ≡ allows self (name_told name) value.now }
+    fn allows(self, argument: Argument, value: &str) -> bool
+        ensures { result ≡ allows self (argument_told argument) value.now }
     {
-        match (self, name) {
-            (_, Name::Workers) => number(value, 64).is_some(),
-            (Action::Measure, Name::Positional) => number(value, 248).is_some(),
+        match (self, argument) {
+            (_, Argument::Workers) => number(value, 64).is_some(),
+            (Action::Measure, Argument::Positional) => number(value, 248).is_some(),
             (Action::Measure, _) => false,
-            (Action::Decompose, Name::Steps) => true,
+            (Action::Decompose, Argument::Steps) => true,
             (Action::Decompose, _) => is_file(value),
         }
     }
 }
 
-// Which names have their value.
+// Which arguments have their value.
 #[derive(Clone, Copy, Default)]
 struct Met {
     positional: bool,
@@ -40,25 +40,25 @@ struct Met {
 }
 
 impl Met {
-    // One more value, where the name has none and the command allows it.
-    fn with(self, action: Action, name: Name, value: &str) -> Option<Met>
-        ensures { result ≡ met_with action self (name_told name) value.now }
+    // One more value, where the argument has none and the command allows it.
+    fn with(self, action: Action, argument: Argument, value: &str) -> Option<Met>
+        ensures { result ≡ met_with action self (argument_told argument) value.now }
     {
-        let is_met = match name {
-            Name::Positional => self.positional,
-            Name::Workers => self.workers,
-            Name::Partition => self.partition,
-            Name::Steps => self.steps,
+        let is_met = match argument {
+            Argument::Positional => self.positional,
+            Argument::Workers => self.workers,
+            Argument::Partition => self.partition,
+            Argument::Steps => self.steps,
         };
-        if is_met || !action.allows(name, value) {
+        if is_met || !action.allows(argument, value) {
             return None;
         }
         let mut met = self;
-        match name {
-            Name::Positional => met.positional = true,
-            Name::Workers => met.workers = true,
-            Name::Partition => met.partition = true,
-            Name::Steps => met.steps = true,
+        match argument {
+            Argument::Positional => met.positional = true,
+            Argument::Workers => met.workers = true,
+            Argument::Partition => met.partition = true,
+            Argument::Steps => met.steps = true,
         }
         Some(met)
     }
@@ -68,28 +68,28 @@ impl Met {
 #[derive(Clone, Copy)]
 struct Pass {
     met: Met,
-    asked: Option<Name>,
+    asked: Option<Argument>,
 }
 
 impl Pass {
     // After one more word, where it may follow.
     fn after(self, action: Action, word: &str) -> Option<Pass>
-        ensures { option_map place_of result ≡ place_after action (place_of self) word.now }
+        ensures { option_map point_of result ≡ point_after action (point_of self) word.now }
     {
         let read = match self.asked {
-            Some(name) => Word::Gives(name, word),
+            Some(argument) => WordKind::Gives(argument, word),
             None => read_word(word),
         };
         match read {
-            Word::Gives(name, value) => {
-                let met = self.met.with(action, name, value)?;
+            WordKind::Gives(argument, value) => {
+                let met = self.met.with(action, argument, value)?;
                 Some(Pass { met, asked: None })
             }
-            Word::Asks(name) => Some(Pass {
+            WordKind::Asks(argument) => Some(Pass {
                 met: self.met,
-                asked: Some(name),
+                asked: Some(argument),
             }),
-            Word::Unknown => None,
+            WordKind::Unknown => None,
         }
     }
 }

@@ -2,15 +2,14 @@
 
 ghost use Rattle.std.specs.Prelude.{◌≡◌};
 ghost use Rattle.std.specs.Option.{option_copied};
-ghost use Rattle.desij_words.specs.Words.{after, number_up_to, word_of};
+ghost use Rattle.desij_words.specs.Words.{after_prefix, is_file_word, number_up_to, word_kind};
 ghost use Rattle.desij_words.specs.Words.{begins_number as begins_number_text};
 ghost use Rattle.desij_words.specs.Words.{begins_with_dash as begins_with_dash_text};
-ghost use Rattle.desij_words.specs.Words.{is_file as is_file_text};
 ghost use Rattle.desij_words.specs.inner.Told.{word_told};
 
 /// What has a value: the place of a word that is no option's, or an option.
 #[derive(Clone, Copy)]
-pub enum Name {
+pub enum Argument {
     Positional,
     Workers,
     Partition,
@@ -18,9 +17,9 @@ pub enum Name {
 }
 
 /// What a word is by itself: it gives a value, or asks for one in the next word, or is neither.
-pub enum Word<'a> {
-    Gives(Name, &'a str),
-    Asks(Name),
+pub enum WordKind<'a> {
+    Gives(Argument, &'a str),
+    Asks(Argument),
     Unknown,
 }
 
@@ -33,9 +32,10 @@ fn begins_with_dash(word: &str) -> bool
 
 /// Whether the word may name a file.
 pub fn is_file(word: &str) -> bool
-    ensures { result ≡ is_file_text word.now }
+    ensures { result ≡ is_file_word word.now }
 {
-    !word.is_empty() && !begins_with_dash(word)
+    let bytes = word.as_bytes();
+    !bytes.is_empty() && bytes[0] != b'-'
 }
 
 fn begins_number(word: &str) -> bool
@@ -61,28 +61,28 @@ pub fn number(word: &str, most: u32) -> Option<u32>
 
 // What follows the beginning.
 fn value_after<'a>(word: &'a str, beginning: &str) -> Option<&'a str>
-    ensures { option_copied result ≡ after beginning.now word.now }
+    ensures { option_copied result ≡ after_prefix beginning.now word.now }
 {
     word.strip_prefix(beginning)
 }
 
 /// What the word is.
-pub fn read_word(word: &str) -> Word<'_>
-    ensures { word_told result ≡ word_of word.now }
+pub fn read_word(word: &str) -> WordKind<'_>
+    ensures { word_told result ≡ word_kind word.now }
 {
     if word == "--steps" {
-        Word::Gives(Name::Steps, "")
+        WordKind::Gives(Argument::Steps, "")
     } else if word == "--workers" {
-        Word::Asks(Name::Workers)
+        WordKind::Asks(Argument::Workers)
     } else if word == "--partition" {
-        Word::Asks(Name::Partition)
+        WordKind::Asks(Argument::Partition)
     } else if let Some(value) = value_after(word, "--workers=") {
-        Word::Gives(Name::Workers, value)
+        WordKind::Gives(Argument::Workers, value)
     } else if let Some(value) = value_after(word, "--partition=") {
-        Word::Gives(Name::Partition, value)
+        WordKind::Gives(Argument::Partition, value)
     } else if begins_with_dash(word) {
-        Word::Unknown
+        WordKind::Unknown
     } else {
-        Word::Gives(Name::Positional, word)
+        WordKind::Gives(Argument::Positional, word)
     }
 }
