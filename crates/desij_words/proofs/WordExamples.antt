@@ -1,4 +1,4 @@
--- Worked words, computed.
+-- What worked words ask for, computed.
 use Rattle.std.proofs.Common.{◌≡◌, [], ◌∷◌, None, Some, List, refl, codes, true, false, map}
 use Rattle.desij_words.specs.Words.{Text, Decompose, Measure, asked_in, usage}
 use Rattle.desij_words.specs.declared.words.TheConstants.{USAGE}
@@ -56,6 +56,7 @@ no_form : AllRefused (
     ∷ (codes "decompose" ∷ codes "a.g" ∷ codes "--help" ∷ [])
     ∷ (codes "decompose" ∷ codes "--help" ∷ [])
     ∷ (codes "decompose" ∷ codes "-h" ∷ [])
+    ∷ (codes "decompose" ∷ codes "a.g" ∷ codes "--partition" ∷ codes "p" ∷ codes "--partition=p" ∷ [])
     ∷ (codes "decompose" ∷ codes "a.g" ∷ codes "--partition=" ∷ [])
     ∷ (codes "decompose" ∷ codes "a.g" ∷ codes "--partition" ∷ codes "" ∷ [])
     ∷ (codes "decompose" ∷ codes "a.g" ∷ codes "--partition=-p" ∷ [])
