@@ -19,7 +19,7 @@ use form::{Action, action_of};
 pub use matches::{decompose_matches, measure_matches};
 use std::alloc::Global;
 use stg_net::NoMemory;
-use word::number;
+use word::{MOST_STAGES, MOST_WORKERS, number};
 
 /// What is printed where the words aren't of the form.
 pub const USAGE: &[u8] = b"\
@@ -75,7 +75,7 @@ fn workers(matches: &ArgMatches) -> Option<u32>
         (option_to_list (first_value (found_of matches.now) (codes "workers"))) }
 {
     match matches.get_str("workers") {
-        Some(word) => number(word, 64),
+        Some(word) => number(word, MOST_WORKERS),
         None => Some(1),
     }
 }
@@ -97,7 +97,7 @@ fn measure_command<'a>(matches: &ArgMatches<'a>) -> Option<Command<'a>>
         → option_map command_told result ≡ Some command }
 {
     Some(Command::Measure {
-        count: number(matches.get_str("count")?, 248)?,
+        count: number(matches.get_str("count")?, MOST_STAGES)?,
         workers: workers(matches)?,
     })
 }

@@ -6,7 +6,9 @@ ghost use Rattle.desij_words.specs.inner.Told.{argument_told};
 ghost use Rattle.desij_words.specs.inner.Pass.{action_in, allows, may_follow, met_with};
 ghost use Rattle.desij_words.specs.inner.Pass.{nothing_met, point_after, point_of};
 
-use crate::words::word::{Argument, WordKind, is_file, number, read_word};
+use crate::words::word::{
+    Argument, MOST_STAGES, MOST_WORKERS, WordKind, is_file, number, read_word,
+};
 
 /// The first word.
 #[derive(Clone, Copy)]
@@ -21,8 +23,8 @@ impl Action {
         ensures { result ≡ allows self (argument_told argument) value.now }
     {
         match (self, argument) {
-            (_, Argument::Workers) => number(value, 64).is_some(),
-            (Action::Measure, Argument::Positional) => number(value, 248).is_some(),
+            (_, Argument::Workers) => number(value, MOST_WORKERS).is_some(),
+            (Action::Measure, Argument::Positional) => number(value, MOST_STAGES).is_some(),
             (Action::Measure, _) => false,
             (Action::Decompose, Argument::Steps) => true,
             (Action::Decompose, _) => is_file(value),
