@@ -1,4 +1,4 @@
--- Worked lent_words: each is that of a log, or has a bad line.
+-- Worked texts: each is that of a log, or has a bad line.
 use Rattle.std.proofs.Common.{◌≡◌, ℕ, List, [], ◌∷◌, codes, true, Ok, Err, refl}
 use Rattle.std.specs.Fmt.{digits}
 use Rattle.stg_net.specs.declared.trans.Edge.{Edge}
@@ -107,7 +107,7 @@ other_log = tells clash_names clash_trans refl refl _ _ refl
 bad_line : (text : List ℕ) (line : ℕ) → log_in clash text ≡ Err line → IsBadLine clash text line
 bad_line = is_bad clash_names clash_trans refl refl
 
--- lent_words with a bad line
+-- texts with a bad line
 no_transition : IsBadLine clash (codes "contract zz+ type1 places 1\n") 1
 no_transition = bad_line _ _ refl
 

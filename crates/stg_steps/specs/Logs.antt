@@ -24,8 +24,8 @@ first_lines k [] = []
 first_lines zero (b ∷ bs) = []
 first_lines (suc k) (b ∷ bs) = b ∷ first_lines (if b == 10 then k else suc k) bs
 
--- No log has this text. The lines before this one begin the text of a log, and with this line, where
--- LF ends it, they don't.
+-- No log has this text. The lines before this one begin the text of some log, and with this line,
+-- where LF ends it, they don't.
 pub record IsBadLine (n : NetLists) (text : List ℕ) (line : ℕ) : Type 0 where
   pub no_log : (log : Log) → ¬ IsLogOf n text log
   pub positive : 1 ≤ line

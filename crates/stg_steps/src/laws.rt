@@ -1,4 +1,4 @@
-//! The laws of logs, for all nets and lent_words. Nothing here does work at run time.
+//! The laws of logs, for all nets and texts. Nothing here does work at run time.
 
 ghost use Rattle.stg_steps.specs.Laws.{LogIsOne, BadLineHasNoLog, BadLineIsOne, TextIsTold};
 

@@ -15,7 +15,7 @@ use std::alloc::Global;
 use stg_derive::{Restore, Step};
 use stg_net::{Net, NoMemory, Seq, Spec};
 
-/// TakesLine a record, where there is one and no step was taken yet.
+/// Takes a record, where there is one and no step was taken yet.
 fn take_restore(log: &mut Log, found: Option<Restore>) -> Result<bool, NoMemory>
     ensures { IfOk result (λ taken. TakesLine taken (reading.with_restore log.old found) log.new) }
 {
@@ -43,7 +43,7 @@ fn take_step(log: &mut Log, found: Option<Step>) -> Result<bool, NoMemory>
     }
 }
 
-/// TakesLine a line of these words, and tells whether it is of the form.
+/// Takes a line of these words, and tells whether it is of the form.
 fn take_row(net: &Net, words: &TransWords, log: &mut Log, row: &[&[u8]]) -> Result<bool, NoMemory>
     requires long { length words.now ≡ length net.now.trans }
     requires few { length words.now < 2 ^ 32 }

@@ -1,26 +1,35 @@
-//! The logs of worked parts, and lent_words that are no logs.
+//! The logs of worked parts, and texts that are no logs.
 
 use crate::StepError;
-use crate::rows::{CLASH, ROWS};
+use crate::rows::{CLASH, ROWS, Row};
 use crate::worked::{read_short, spec_of, write_log};
+use std::alloc::Global;
+use std::process::Abort;
 use std::test::Fail;
+
+/// The log of the part of the plain group of that number is this text, and as many records and
+/// steps are read from it.
+fn assert_log(
+    rt: &impl Abort,
+    alloc: Global,
+    row: &Row,
+    group: usize,
+    log: &[u8],
+) -> Result<(), Fail> {
+    let made = write_log(alloc, row.text, group)?;
+    assert_eq!(rt; made.log.as_slice(), log, "group {group} of {}", row.name);
+    assert!(rt; log.len() < 1000);
+    let read = read_short(alloc, &made.spec, log)?;
+    assert_eq!(rt; read.restored.len(), made.part.restored.len());
+    assert_eq!(rt; read.steps.len(), made.part.steps.len());
+    Ok(())
+}
 
 #[test]
 fn writes_and_reads_the_logs_of_worked_parts(rt: HostRuntime) -> Result<(), Fail> {
     for row in ROWS {
         for (group, log) in row.logs.iter().enumerate() {
-            let made = write_log(rt.alloc(), row.text, group)?;
-            assert_eq!(rt;
-                made.log.as_slice(),
-                *log,
-                "{}, part {}",
-                row.name,
-                group + 1
-            );
-            assert!(rt; log.len() < 1000);
-            let read = read_short(rt.alloc(), &made.spec, *log)?;
-            assert_eq!(rt; read.restored.as_slice(), made.part.restored.as_slice());
-            assert_eq!(rt; read.steps.as_slice(), made.part.steps.as_slice());
+            assert_log(&rt, rt.alloc(), row, group, *log)?;
         }
     }
     Ok(())

@@ -1,4 +1,4 @@
-//! The parts of the plain groups of lent_words, written into logs and read back, for the tests.
+//! The parts of the plain groups of texts, written into logs and read back, for the tests.
 
 ghost use Rattle.std.specs.Prelude.{◌<◌, length, IfOk};
 ghost use Rattle.stg_net.specs.declared.limits.TheConstants.Limits.{SPEC};
