@@ -11,7 +11,7 @@ use Rattle.stg_laws.proofs.SignalConflicts.{driven_there}
 use Rattle.stg_partition.specs.declared.error.GroupError.{GroupError}
 use Rattle.stg_partition.specs.declared.error.GroupError.TheVariants as errors
 use Rattle.stg_partition.specs.declared.splits.Split.{Split}
-use Rattle.stg_partition.specs.PartitionText.{Row, rows_of}
+use Rattle.stg_partition.specs.PartitionText.{GroupRow, rows_of}
 use Rattle.stg_partition.specs.Partition.{row_group, row_groups, groups_in, stands_in, is_missing, AreWhole, IsLeastSplit, ArePartition, IsRefusedPartition, IsAnswer, HasOneAnswer}
 use Rattle.stg_partition.specs.inner.Naming.{AreNamedGroups, AreRefusedBy}
 use Rattle.stg_partition.specs.inner.Numbers.{group_number, AreNumbers}
@@ -29,7 +29,7 @@ no_ok groups e f = absurd (cc)
 pub named_groups : (n : NetLists) (text : List ℕ) (groups : List Group) → IsNet n → groups_in n text ≡ Ok groups → AreNamedGroups n groups
 named_groups n text groups net e = go (rows_of n.signals text) refl
   where
-    go : (r : Result (List Row) GroupError) → rows_of n.signals text ≡ r → AreNamedGroups n groups
+    go : (r : Result (List GroupRow) GroupError) → rows_of n.signals text ≡ r → AreNamedGroups n groups
     go (Err f) r_is = let none : Err f ≡ Ok groups = sym (ap (row_groups n) r_is) ∙ e in absurd (cc)
     go (Ok rows) r_is =
         let told : Ok (map (row_group n) rows) ≡ Ok groups = sym (ap (row_groups n) r_is) ∙ e in
@@ -39,7 +39,7 @@ named_groups n text groups net e = go (rows_of n.signals text) refl
 of_refused : (n : NetLists) (text : List ℕ) (e : GroupError) → groups_in n text ≡ Err e → IsOfLine e
 of_refused n text e f = go (rows_of n.signals text) refl
   where
-    go : (r : Result (List Row) GroupError) → rows_of n.signals text ≡ r → IsOfLine e
+    go : (r : Result (List GroupRow) GroupError) → rows_of n.signals text ≡ r → IsOfLine e
     go (Ok rows) r_is = let none : Ok (map (row_group n) rows) ≡ Err e = sym (ap (row_groups n) r_is) ∙ f in absurd (cc)
     go (Err g) r_is =
         let told : Err g ≡ Err e = sym (ap (row_groups n) r_is) ∙ f in

@@ -12,7 +12,7 @@ use Rattle.stg_laws.specs.PlainGroups.{Group, AreFeasible}
 use Rattle.stg_laws.proofs.SignalConflicts.{shared, taker, conflict_at}
 use Rattle.stg_partition.specs.Partition.{stands_in, stand_together, AreWhole, IsSplit}
 use Rattle.stg_partition.specs.inner.Naming.{AreNamedGroups}
-use Rattle.stg_partition.specs.inner.Numbers.{group_number, are_same}
+use Rattle.stg_partition.specs.inner.Numbers.{group_number, are_same_numbers}
 use Rattle.stg_partition.proofs.GroupNumbers.{no_group, number_stands, stands_number, stands_at, number_is, same_itself, same_true, differ_turn, differ_apart, whole_stands}
 
 -- no two signals of different groups take from one place
@@ -25,8 +25,8 @@ stands_any groups s e =
     let there = number_stands groups s k.0 k.1 in
     (k.0, get_or groups k.0 no_group, there.0, get_or_default groups k.0 (get_or groups k.0 no_group) no_group there.0, there.1)
 
-together : (n : NetLists) (groups : List Group) (x y : ℕ) → AreNamedGroups n groups → AreWhole n groups → AreUnsplit n groups → in_conflict n x y ≡ true → are_same (group_number groups x) (group_number groups y) ≡ true
-together n groups x y named whole unsplit conflict = elim (cases_Bool (are_same (group_number groups x) (group_number groups y))) [
+together : (n : NetLists) (groups : List Group) (x y : ℕ) → AreNamedGroups n groups → AreWhole n groups → AreUnsplit n groups → in_conflict n x y ≡ true → are_same_numbers (group_number groups x) (group_number groups y) ≡ true
+together n groups x y named whole unsplit conflict = elim (cases_Bool (are_same_numbers (group_number groups x) (group_number groups y))) [
   | inl same ↦ same
   | inr differ ↦
       let outer = and_parts (is_driven_at n.signals x && is_driven_at n.signals y) (share_place n x y) conflict in
@@ -35,7 +35,7 @@ together n groups x y named whole unsplit conflict = elim (cases_Bool (are_same 
       let y_stands = whole_stands n groups y whole driven.1 in
       let at = shared n x y outer.1 in
       elim (cases_order x y) [
-        | inl same ↦ absurd (false≢true (sym differ ∙ ap (λ s. are_same (group_number groups x) (group_number groups s)) (sym same) ∙ same_itself (group_number groups x)))
+        | inl same ↦ absurd (false≢true (sym differ ∙ ap (λ s. are_same_numbers (group_number groups x) (group_number groups s)) (sym same) ∙ same_itself (group_number groups x)))
         | inr o ↦ elim o [
           | inl up ↦ absurd (unsplit x y at.place (record { ascends = up; apart = differ_apart n groups x y named x_stands y_stands differ; x_takes = at.x_takes; y_takes = at.y_takes }))
           | inr down ↦

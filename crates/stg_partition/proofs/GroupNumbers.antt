@@ -12,9 +12,9 @@ use Rattle.stg_laws.specs.Groups.{is_driven_at}
 use Rattle.stg_laws.specs.PlainGroups.{Group}
 use Rattle.stg_laws.proofs.KnownSignals.{passing}
 use Rattle.stg_laws.proofs.SignalConflicts.{driven_there}
-use Rattle.stg_partition.specs.Partition.{stands_in, stand_together, are_apart, is_missing, AreWhole, IsLeastMissing}
+use Rattle.stg_partition.specs.Partition.{stands_in, stand_together, stand_apart, is_missing, AreWhole, IsLeastMissing}
 use Rattle.stg_partition.specs.inner.Naming.{AreNamedGroups}
-use Rattle.stg_partition.specs.inner.Numbers.{group_number, AreNumbers, is_unnumbered, IsFirstUnnumbered, AreAllNumbered, are_same}
+use Rattle.stg_partition.specs.inner.Numbers.{group_number, AreNumbers, is_unnumbered, IsFirstUnnumbered, AreAllNumbered, are_same_numbers}
 
 abbrev pub no_group : Group
 no_group = record { own = []; known = [] }
@@ -69,24 +69,24 @@ number_is n groups s k named inside has =
       ]
     ]
 
-pub same_itself : (o : Option ℕ) → are_same o o ≡ true
+pub same_itself : (o : Option ℕ) → are_same_numbers o o ≡ true
 same_itself None = refl
 same_itself (Some k) = eq-eqb k k refl
 
-pub same_true : (o q : Option ℕ) → are_same o q ≡ true → o ≡ q
+pub same_true : (o q : Option ℕ) → are_same_numbers o q ≡ true → o ≡ q
 same_true None None e = refl
 same_true None (Some k) e = absurd (false≢true e)
 same_true (Some j) None e = absurd (false≢true e)
 same_true (Some j) (Some k) e = ap Some (eqb-true j k e)
 
-pub differ_turn : (o q : Option ℕ) → are_same o q ≡ false → are_same q o ≡ false
-differ_turn o q differ = elim (cases_Bool (are_same q o)) [
+pub differ_turn : (o q : Option ℕ) → are_same_numbers o q ≡ false → are_same_numbers q o ≡ false
+differ_turn o q differ = elim (cases_Bool (are_same_numbers q o)) [
   | inr e ↦ e
-  | inl e ↦ absurd (false≢true (sym differ ∙ ap (are_same o) (same_true q o e) ∙ same_itself o))
+  | inl e ↦ absurd (false≢true (sym differ ∙ ap (are_same_numbers o) (same_true q o e) ∙ same_itself o))
 ]
 
 -- signals that stand in groups of different numbers are apart
-pub differ_apart : (n : NetLists) (groups : List Group) (x y : ℕ) → AreNamedGroups n groups → stands_in groups x ≡ true → stands_in groups y ≡ true → are_same (group_number groups x) (group_number groups y) ≡ false → are_apart groups x y ≡ true
+pub differ_apart : (n : NetLists) (groups : List Group) (x y : ℕ) → AreNamedGroups n groups → stands_in groups x ≡ true → stands_in groups y ≡ true → are_same_numbers (group_number groups x) (group_number groups y) ≡ false → stand_apart groups x y ≡ true
 differ_apart n groups x y named x_stands y_stands differ = elim (cases_Bool (stand_together groups x y)) [
   | inr e ↦ rw (x_stands, y_stands, e) refl
   | inl e ↦
@@ -97,12 +97,12 @@ differ_apart n groups x y named x_stands y_stands differ = elim (cases_Bool (sta
       let Q : Group → Type 0 = λ group. Contains group.own y in
       let one = number_is n groups x f.at named f.inside (subst P (sym (f.item_is no_group)) (contained-one_of f.item.own x both.0)) in
       let two = number_is n groups y f.at named f.inside (subst Q (sym (f.item_is no_group)) (contained-one_of f.item.own y both.1)) in
-      absurd (false≢true (sym differ ∙ ap (are_same (group_number groups x)) (two ∙ sym one) ∙ same_itself (group_number groups x)))
+      absurd (false≢true (sym differ ∙ ap (are_same_numbers (group_number groups x)) (two ∙ sym one) ∙ same_itself (group_number groups x)))
 ]
 
 -- and the other way round
-pub apart_differ : (groups : List Group) (x y : ℕ) → are_apart groups x y ≡ true → are_same (group_number groups x) (group_number groups y) ≡ false
-apart_differ groups x y apart = elim (cases_Bool (are_same (group_number groups x) (group_number groups y))) [
+pub apart_differ : (groups : List Group) (x y : ℕ) → stand_apart groups x y ≡ true → are_same_numbers (group_number groups x) (group_number groups y) ≡ false
+apart_differ groups x y apart = elim (cases_Bool (are_same_numbers (group_number groups x) (group_number groups y))) [
   | inr e ↦ e
   | inl e ↦
       let outer = and_parts (stands_in groups x && stands_in groups y) (not (stand_together groups x y)) apart in

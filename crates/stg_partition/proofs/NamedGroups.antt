@@ -15,7 +15,7 @@ use Rattle.stg_laws.specs.Stgs.{is_driven}
 use Rattle.stg_laws.specs.Groups.{is_driven_at}
 use Rattle.stg_laws.specs.PlainGroups.{Group, IsFeasibleGroup}
 use Rattle.stg_laws.proofs.KnownSignals.{passing, passing_contained}
-use Rattle.stg_partition.specs.PartitionText.{Row, is_output_named, names_output}
+use Rattle.stg_partition.specs.PartitionText.{GroupRow, is_output_named, names_output}
 use Rattle.stg_partition.specs.Partition.{is_named_in, own_of, row_group}
 use Rattle.stg_partition.specs.inner.Naming.{AreNamedGroups}
 use Rattle.stg_partition.proofs.GoodRows.{AreGoodRows}
@@ -41,20 +41,20 @@ output_named n name e =
     }
 
 -- a name that stands in a row of outputs is that of an output or internal signal
-among_output : (n : NetLists) (row : Row) (name : List ℕ) → list_all (names_output n.signals) row ≡ true → is_among row name ≡ true → IsOutput n name
+among_output : (n : NetLists) (row : GroupRow) (name : List ℕ) → list_all (names_output n.signals) row ≡ true → is_among row name ≡ true → IsOutput n name
 among_output n row name outputs e =
     let f = passing (λ known. bytes_eq known name) row e in
     let same : f.item ≡ name = (bytes_eq-Decides f.item name).0 f.passes in
     let passes = AllPass-from_list_all (names_output n.signals) row outputs f.at [] f.inside in
     output_named n name (ap (names_output n.signals) (sym same) ∙ ap (names_output n.signals) (sym (f.item_is [])) ∙ passes)
 
-named_driven : (n : NetLists) (row : Row) (s : ℕ) → IsNet n → list_all (names_output n.signals) row ≡ true → Contains (own_of n row) s → is_driven_at n.signals s ≡ true
+named_driven : (n : NetLists) (row : GroupRow) (s : ℕ) → IsNet n → list_all (names_output n.signals) row ≡ true → Contains (own_of n row) s → is_driven_at n.signals s ≡ true
 named_driven n row s net outputs c =
     let p = contained_passes (is_named_in n.signals row) (length n.signals) s c in
     let o = among_output n row (signal_at n.signals s).name outputs p.passes in
     ap (is_driven_at n.signals) (sym (one_signal n o.signal s net o.there p.below o.name_is)) ∙ o.driven
 
-has_own : (n : NetLists) (row : Row) → 0 < length row → list_all (names_output n.signals) row ≡ true → 0 < length (own_of n row)
+has_own : (n : NetLists) (row : GroupRow) → 0 < length row → list_all (names_output n.signals) row ≡ true → 0 < length (own_of n row)
 has_own n row some outputs =
     let name = get_or row 0 [] in
     let o = output_named n name (AllPass-from_list_all (names_output n.signals) row outputs 0 [] some) in
@@ -63,7 +63,7 @@ has_own n row some outputs =
     let c = passing_contained (is_named_in n.signals row) (length n.signals) o.signal o.there named in
     omega (arith, c.1)
 
-row_feasible : (n : NetLists) (row : Row) → IsNet n → 0 < length row → list_all (names_output n.signals) row ≡ true → IsFeasibleGroup n (row_group n row)
+row_feasible : (n : NetLists) (row : GroupRow) → IsNet n → 0 < length row → list_all (names_output n.signals) row ≡ true → IsFeasibleGroup n (row_group n row)
 row_feasible n row net some outputs = record {
   driven = λ k d inside. named_driven n row (get_or (own_of n row) k d) net outputs (k, inside, get_or_default (own_of n row) k (get_or (own_of n row) k d) d inside);
   ascends = numbers_increase (is_named_in n.signals row) (length n.signals);
@@ -72,7 +72,7 @@ row_feasible n row net some outputs = record {
 }
 
 -- good rows name groups that are feasible each, and have no signal in common
-pub rows_named : (n : NetLists) (rows : List Row) → IsNet n → AreGoodRows n.signals rows → AreNamedGroups n (map (row_group n) rows)
+pub rows_named : (n : NetLists) (rows : List GroupRow) → IsNet n → AreGoodRows n.signals rows → AreNamedGroups n (map (row_group n) rows)
 rows_named n rows net good = record {
   feasible = λ k d inside.
       let there = below k inside in

@@ -10,21 +10,21 @@ use Rattle.astg_lex.specs.Words.{WordAt, is_blank, is_single, is_joining, begins
 use Rattle.stg_laws.specs.Stgs.{is_driven}
 use Rattle.stg_partition.specs.declared.error.GroupError.{GroupError}
 use Rattle.stg_partition.specs.declared.error.GroupError.TheVariants as errors
-use Rattle.stg_partition.specs.PartitionText.{Row, begins_word, with_front, runs_of, is_output_named, names_output, row_tested}
+use Rattle.stg_partition.specs.PartitionText.{GroupRow, begins_word, with_first_byte, runs_of, is_output_named, names_output, row_tested}
 use Rattle.stg_laws.proofs.KnownSignals.{passing}
 
 -- the words as the lexer gives them, without their places
-abbrev lexed_with : ℕ → List ℕ → Row → Row
-lexed_with b bs ws = cond (is_blank b) ws (cond (is_joining b && begins_joining bs) (with_front b ws) ((b ∷ []) ∷ ws))
+abbrev lexed_with : ℕ → List ℕ → GroupRow → GroupRow
+lexed_with b bs ws = cond (is_blank b) ws (cond (is_joining b && begins_joining bs) (with_first_byte b ws) ((b ∷ []) ∷ ws))
 
-abbrev pub lexed : List ℕ → Row
+abbrev pub lexed : List ℕ → GroupRow
 lexed [] = []
 lexed (b ∷ bs) = lexed_with b bs (lexed bs)
 
-abbrev words_of_views : List WordAt → Row
+abbrev words_of_views : List WordAt → GroupRow
 words_of_views words = map (λ (w : WordAt). w.text) words
 
-texts-longer : (a b : ℕ) (ws : List WordAt) → words_of_views (longer a b ws) ≡ with_front b (words_of_views ws)
+texts-longer : (a b : ℕ) (ws : List WordAt) → words_of_views (longer a b ws) ≡ with_first_byte b (words_of_views ws)
 texts-longer a b [] = refl
 texts-longer a b (w ∷ ws) = refl
 
@@ -68,19 +68,19 @@ pub lexed-runs : (bs : List ℕ) → has_single bs ≡ false → lexed bs ≡ ru
 lexed-runs [] h = refl
 lexed-runs (b ∷ bs) h =
     let p = or_parts_false (is_single b) (has_single bs) h in
-    ap (lexed_with b bs) (lexed-runs bs p.1) ∙ same (is_blank b) (is_single b) (begins_joining bs) (begins_word bs) (runs_of bs) (with_front b (runs_of bs)) ((b ∷ []) ∷ runs_of bs) p.0 (same_begin bs p.1)
+    ap (lexed_with b bs) (lexed-runs bs p.1) ∙ same (is_blank b) (is_single b) (begins_joining bs) (begins_word bs) (runs_of bs) (with_first_byte b (runs_of bs)) ((b ∷ []) ∷ runs_of bs) p.0 (same_begin bs p.1)
   where
-    same : (x y s t : Bool) (us vs ws : Row) → y ≡ false → s ≡ t → cond x us (cond (not (x || y) && s) vs ws) ≡ cond x us (cond t vs ws)
+    same : (x y s t : Bool) (us vs ws : GroupRow) → y ≡ false → s ≡ t → cond x us (cond (not (x || y) && s) vs ws) ≡ cond x us (cond t vs ws)
     same true y s t us vs ws e f = refl
     same false y s t us vs ws e f = ap (λ z. cond (not z && s) vs ws) e ∙ ap (λ z. cond z vs ws) f
 
 -- with such a byte both have a word with one
 
-abbrev any_single : Row → Bool
+abbrev any_single : GroupRow → Bool
 any_single ws = list_any has_single ws
 
 -- a word stands in front
-abbrev has_front : Row → Bool
+abbrev has_front : GroupRow → Bool
 has_front [] = false
 has_front (w ∷ ws) = true
 
@@ -88,11 +88,11 @@ or_turn : (a b c : Bool) → ((a || b) || c) ≡ (a || (b || c))
 or_turn true b c = refl
 or_turn false b c = refl
 
-with_front-any : (b : ℕ) (ws : Row) → has_front ws ≡ true → any_single (with_front b ws) ≡ (is_single b || any_single ws)
+with_front-any : (b : ℕ) (ws : GroupRow) → has_front ws ≡ true → any_single (with_first_byte b ws) ≡ (is_single b || any_single ws)
 with_front-any b [] h = absurd (false≢true h)
 with_front-any b (w ∷ ws) h = or_turn (is_single b) (has_single w) (any_single ws)
 
-with_front-front : (b : ℕ) (ws : Row) → has_front ws ≡ true → has_front (with_front b ws) ≡ true
+with_front-front : (b : ℕ) (ws : GroupRow) → has_front ws ≡ true → has_front (with_first_byte b ws) ≡ true
 with_front-front b [] h = absurd (false≢true h)
 with_front-front b (w ∷ ws) h = refl
 
@@ -114,10 +114,10 @@ or_none false = refl
 runs-any : (bs : List ℕ) → any_single (runs_of bs) ≡ has_single bs
 runs-any [] = refl
 runs-any (b ∷ bs) = elim (cases_Bool (is_blank b)) [
-  | inl k ↦ ap (λ c. any_single (cond c (runs_of bs) (cond (begins_word bs) (with_front b (runs_of bs)) ((b ∷ []) ∷ runs_of bs)))) k ∙ runs-any bs ∙ ap (λ c. c || has_single bs) (sym (blank_not_single b k))
-  | inr k ↦ ap (λ c. any_single (cond c (runs_of bs) (cond (begins_word bs) (with_front b (runs_of bs)) ((b ∷ []) ∷ runs_of bs)))) k ∙ elim (cases_Bool (begins_word bs)) [
-    | inl l ↦ ap (λ c. any_single (cond c (with_front b (runs_of bs)) ((b ∷ []) ∷ runs_of bs))) l ∙ with_front-any b (runs_of bs) (runs_front bs l) ∙ ap (λ c. is_single b || c) (runs-any bs)
-    | inr l ↦ ap (λ c. any_single (cond c (with_front b (runs_of bs)) ((b ∷ []) ∷ runs_of bs))) l ∙ ap (λ c. c || any_single (runs_of bs)) (or_none (is_single b)) ∙ ap (λ c. is_single b || c) (runs-any bs)
+  | inl k ↦ ap (λ c. any_single (cond c (runs_of bs) (cond (begins_word bs) (with_first_byte b (runs_of bs)) ((b ∷ []) ∷ runs_of bs)))) k ∙ runs-any bs ∙ ap (λ c. c || has_single bs) (sym (blank_not_single b k))
+  | inr k ↦ ap (λ c. any_single (cond c (runs_of bs) (cond (begins_word bs) (with_first_byte b (runs_of bs)) ((b ∷ []) ∷ runs_of bs)))) k ∙ elim (cases_Bool (begins_word bs)) [
+    | inl l ↦ ap (λ c. any_single (cond c (with_first_byte b (runs_of bs)) ((b ∷ []) ∷ runs_of bs))) l ∙ with_front-any b (runs_of bs) (runs_front bs l) ∙ ap (λ c. is_single b || c) (runs-any bs)
+    | inr l ↦ ap (λ c. any_single (cond c (with_first_byte b (runs_of bs)) ((b ∷ []) ∷ runs_of bs))) l ∙ ap (λ c. c || any_single (runs_of bs)) (or_none (is_single b)) ∙ ap (λ c. is_single b || c) (runs-any bs)
   ]
 ]
 
@@ -127,18 +127,18 @@ joining_not_blank false y h = refl
 
 lexed_front : (bs : List ℕ) → begins_joining bs ≡ true → has_front (lexed bs) ≡ true
 lexed_front [] h = absurd (false≢true h)
-lexed_front (b ∷ bs) h = ap (λ c. has_front (cond c (lexed bs) (cond (is_joining b && begins_joining bs) (with_front b (lexed bs)) ((b ∷ []) ∷ lexed bs)))) (joining_not_blank (is_blank b) (is_single b) h) ∙ elim (cases_Bool (is_joining b && begins_joining bs)) [
-  | inl k ↦ ap (λ c. has_front (cond c (with_front b (lexed bs)) ((b ∷ []) ∷ lexed bs))) k ∙ with_front-front b (lexed bs) (lexed_front bs (and_parts (is_joining b) (begins_joining bs) k).1)
-  | inr k ↦ ap (λ c. has_front (cond c (with_front b (lexed bs)) ((b ∷ []) ∷ lexed bs))) k
+lexed_front (b ∷ bs) h = ap (λ c. has_front (cond c (lexed bs) (cond (is_joining b && begins_joining bs) (with_first_byte b (lexed bs)) ((b ∷ []) ∷ lexed bs)))) (joining_not_blank (is_blank b) (is_single b) h) ∙ elim (cases_Bool (is_joining b && begins_joining bs)) [
+  | inl k ↦ ap (λ c. has_front (cond c (with_first_byte b (lexed bs)) ((b ∷ []) ∷ lexed bs))) k ∙ with_front-front b (lexed bs) (lexed_front bs (and_parts (is_joining b) (begins_joining bs) k).1)
+  | inr k ↦ ap (λ c. has_front (cond c (with_first_byte b (lexed bs)) ((b ∷ []) ∷ lexed bs))) k
 ]
 
 lexed-any : (bs : List ℕ) → any_single (lexed bs) ≡ has_single bs
 lexed-any [] = refl
 lexed-any (b ∷ bs) = elim (cases_Bool (is_blank b)) [
-  | inl k ↦ ap (λ c. any_single (cond c (lexed bs) (cond (is_joining b && begins_joining bs) (with_front b (lexed bs)) ((b ∷ []) ∷ lexed bs)))) k ∙ lexed-any bs ∙ ap (λ c. c || has_single bs) (sym (blank_not_single b k))
-  | inr k ↦ ap (λ c. any_single (cond c (lexed bs) (cond (is_joining b && begins_joining bs) (with_front b (lexed bs)) ((b ∷ []) ∷ lexed bs)))) k ∙ elim (cases_Bool (is_joining b && begins_joining bs)) [
-    | inl l ↦ ap (λ c. any_single (cond c (with_front b (lexed bs)) ((b ∷ []) ∷ lexed bs))) l ∙ with_front-any b (lexed bs) (lexed_front bs (and_parts (is_joining b) (begins_joining bs) l).1) ∙ ap (λ c. is_single b || c) (lexed-any bs)
-    | inr l ↦ ap (λ c. any_single (cond c (with_front b (lexed bs)) ((b ∷ []) ∷ lexed bs))) l ∙ ap (λ c. c || any_single (lexed bs)) (or_none (is_single b)) ∙ ap (λ c. is_single b || c) (lexed-any bs)
+  | inl k ↦ ap (λ c. any_single (cond c (lexed bs) (cond (is_joining b && begins_joining bs) (with_first_byte b (lexed bs)) ((b ∷ []) ∷ lexed bs)))) k ∙ lexed-any bs ∙ ap (λ c. c || has_single bs) (sym (blank_not_single b k))
+  | inr k ↦ ap (λ c. any_single (cond c (lexed bs) (cond (is_joining b && begins_joining bs) (with_first_byte b (lexed bs)) ((b ∷ []) ∷ lexed bs)))) k ∙ elim (cases_Bool (is_joining b && begins_joining bs)) [
+    | inl l ↦ ap (λ c. any_single (cond c (with_first_byte b (lexed bs)) ((b ∷ []) ∷ lexed bs))) l ∙ with_front-any b (lexed bs) (lexed_front bs (and_parts (is_joining b) (begins_joining bs) l).1) ∙ ap (λ c. is_single b || c) (lexed-any bs)
+    | inr l ↦ ap (λ c. any_single (cond c (with_first_byte b (lexed bs)) ((b ∷ []) ∷ lexed bs))) l ∙ ap (λ c. c || any_single (lexed bs)) (or_none (is_single b)) ∙ ap (λ c. is_single b || c) (lexed-any bs)
   ]
 ]
 
@@ -176,27 +176,27 @@ output_single signals w named e =
     let name : is_name f.item.name ≡ true = subst P (f.item_is f.item) (named f.at f.item f.inside) in
     name_single w (ap is_name (sym same) ∙ name)
 
-outputs_single : (signals : List Signal) (ws : Row) → AreNamed signals → list_all (names_output signals) ws ≡ true → any_single ws ≡ false
+outputs_single : (signals : List Signal) (ws : GroupRow) → AreNamed signals → list_all (names_output signals) ws ≡ true → any_single ws ≡ false
 outputs_single signals [] named e = refl
 outputs_single signals (w ∷ ws) named e =
     let p = and_parts (names_output signals w) (list_all (names_output signals) ws) e in
     ap (λ b. b || any_single ws) (output_single signals w named p.0) ∙ outputs_single signals ws named p.1
 
-no_outputs : (signals : List Signal) (ws : Row) → AreNamed signals → any_single ws ≡ true → list_all (names_output signals) ws ≡ false
+no_outputs : (signals : List Signal) (ws : GroupRow) → AreNamed signals → any_single ws ≡ true → list_all (names_output signals) ws ≡ false
 no_outputs signals ws named h = elim (cases_Bool (list_all (names_output signals) ws)) [
   | inl e ↦ absurd (false≢true (sym (outputs_single signals ws named e) ∙ h))
   | inr e ↦ e
 ]
 
 -- the test of a line is the same for both
-pub lexed-tested : (signals : List Signal) (number : ℕ) (before : List Row) (bs : List ℕ) → AreNamed signals → row_tested signals number before (lexed bs) ≡ row_tested signals number before (runs_of bs)
+pub lexed-tested : (signals : List Signal) (number : ℕ) (before : List GroupRow) (bs : List ℕ) → AreNamed signals → row_tested signals number before (lexed bs) ≡ row_tested signals number before (runs_of bs)
 lexed-tested signals number before bs named = elim (cases_Bool (has_single bs)) [
   | inl h ↦ rw (no_outputs signals (lexed bs) named (lexed-any bs ∙ h)) (rw (no_outputs signals (runs_of bs) named (runs-any bs ∙ h)) refl)
   | inr h ↦ ap (row_tested signals number before) (lexed-runs bs h)
 ]
 
 -- and where a line passes it, both give the same words
-pub lexed-passed : (signals : List Signal) (number : ℕ) (before : List Row) (bs : List ℕ) → AreNamed signals → row_tested signals number before (lexed bs) ≡ Ok tt → lexed bs ≡ runs_of bs
+pub lexed-passed : (signals : List Signal) (number : ℕ) (before : List GroupRow) (bs : List ℕ) → AreNamed signals → row_tested signals number before (lexed bs) ≡ Ok tt → lexed bs ≡ runs_of bs
 lexed-passed signals number before bs named e = elim (cases_Bool (has_single bs)) [
   | inr h ↦ lexed-runs bs h
   | inl h ↦ refused (errors.UnknownOutput number) (rw (no_outputs signals (lexed bs) named (lexed-any bs ∙ h)) at e)

@@ -11,7 +11,7 @@ use Rattle.stg_partition.specs.declared.splits.Split.{Split}
 use Rattle.stg_partition.specs.Partition.{stands_in, stand_together, AreWhole, IsSplit, IsLeastSplit}
 use Rattle.stg_partition.specs.inner.Joining.{own_taker, taker_at}
 use Rattle.stg_partition.specs.inner.Naming.{AreNamedGroups}
-use Rattle.stg_partition.specs.inner.Numbers.{group_number, number_at, AreNumbers, are_same}
+use Rattle.stg_partition.specs.inner.Numbers.{group_number, number_at, AreNumbers, are_same_numbers}
 use Rattle.stg_partition.specs.inner.Splits.{AreLeastTakers, split_of, split_at, least_split, IsFound}
 use Rattle.stg_partition.proofs.GroupNumbers.{same_itself, same_true, differ_turn, differ_apart, apart_differ, whole_stands, stands_driven}
 use Rattle.stg_partition.proofs.SplitOrders.{IsLesser, IsReached, not_lesser_itself, lesser_first, lesser_second, lesser_one, reached_up}
@@ -50,13 +50,13 @@ least_split-reaches n numbers takers a (b ∷ arcs) c (suc k) inside a_is e =
 pub record SplitParts (numbers : List (Option ℕ)) (taker own : Option ℕ) (place : ℕ) (c : Split) : Type 0 where
   pub taker_is : taker ≡ Some c.x
   pub own_is : own ≡ Some c.y
-  pub differ : are_same (number_at numbers c.x) (number_at numbers c.y) ≡ false
+  pub differ : are_same_numbers (number_at numbers c.x) (number_at numbers c.y) ≡ false
   pub place_is : place ≡ c.place
 
 split_parts : (numbers : List (Option ℕ)) (taker own : Option ℕ) (place : ℕ) (c : Split) → split_of numbers taker own place ≡ Some c → SplitParts numbers taker own place c
 split_parts numbers None own place c e = none_found c e
 split_parts numbers (Some x) None place c e = none_found c e
-split_parts numbers (Some x) (Some y) place c e = elim (cases_Bool (are_same (number_at numbers x) (number_at numbers y))) [
+split_parts numbers (Some x) (Some y) place c e = elim (cases_Bool (are_same_numbers (number_at numbers x) (number_at numbers y))) [
   | inl same ↦ none_found c (rw same at e)
   | inr differ ↦
       let s : Split = record { x = x; y = y; place = place } in
@@ -65,7 +65,7 @@ split_parts numbers (Some x) (Some y) place c e = elim (cases_Bool (are_same (nu
       subst P c_is (record { taker_is = refl; own_is = refl; differ = differ; place_is = refl })
 ]
 
-split_whole : (numbers : List (Option ℕ)) (taker own : Option ℕ) (place x y : ℕ) → taker ≡ Some x → own ≡ Some y → are_same (number_at numbers x) (number_at numbers y) ≡ false → split_of numbers taker own place ≡ Some (record { x = x; y = y; place = place })
+split_whole : (numbers : List (Option ℕ)) (taker own : Option ℕ) (place x y : ℕ) → taker ≡ Some x → own ≡ Some y → are_same_numbers (number_at numbers x) (number_at numbers y) ≡ false → split_of numbers taker own place ≡ Some (record { x = x; y = y; place = place })
 split_whole numbers taker own place x y t o differ =
     ap (λ q. split_of numbers q own place) t ∙ ap (λ q. split_of numbers (Some x) q place) o ∙ rw differ refl
 
@@ -78,16 +78,16 @@ not_lesser_second x y z p low l = grind arith
 
 module _ (n : NetLists) (groups : List Group) (numbers takers : List (Option ℕ)) (named : AreNamedGroups n groups) (whole : AreWhole n groups) (are : AreNumbers n groups numbers) (least : AreLeastTakers n takers) where
   -- the signals of a place's taker and of an own arc have numbers of groups
-  same_numbers : (x y : ℕ) → is_driven_at n.signals x ≡ true → is_driven_at n.signals y ≡ true → are_same (number_at numbers x) (number_at numbers y) ≡ are_same (group_number groups x) (group_number groups y)
+  same_numbers : (x y : ℕ) → is_driven_at n.signals x ≡ true → is_driven_at n.signals y ≡ true → are_same_numbers (number_at numbers x) (number_at numbers y) ≡ are_same_numbers (group_number groups x) (group_number groups y)
   same_numbers x y x_driven y_driven =
-      ap (λ o. are_same o (number_at numbers y)) (are.each x (driven_there n x x_driven)) ∙ ap (are_same (group_number groups x)) (are.each y (driven_there n y y_driven))
+      ap (λ o. are_same_numbers o (number_at numbers y)) (are.each x (driven_there n x x_driven)) ∙ ap (are_same_numbers (group_number groups x)) (are.each y (driven_there n y y_driven))
 
-  differ_up : (x y : ℕ) → x ≤ y → are_same (number_at numbers x) (number_at numbers y) ≡ false → x < y
+  differ_up : (x y : ℕ) → x ≤ y → are_same_numbers (number_at numbers x) (number_at numbers y) ≡ false → x < y
   differ_up x y up differ = elim (cases_lt x y) [
     | inl l ↦ l
     | inr o ↦
         let same : x ≡ y = omega arith in
-        absurd (false≢true (sym differ ∙ ap (λ s. are_same (number_at numbers x) (number_at numbers s)) (sym same) ∙ same_itself (number_at numbers x)))
+        absurd (false≢true (sym differ ∙ ap (λ s. are_same_numbers (number_at numbers x) (number_at numbers s)) (sym same) ∙ same_itself (number_at numbers x)))
   ]
 
   -- what is found is a split
@@ -109,21 +109,21 @@ module _ (n : NetLists) (groups : List Group) (numbers takers : List (Option ℕ
       }
 
   -- the split of a place's taker and a signal that takes from it is reached
-  reached_at : (x y p : ℕ) → taker_at takers p ≡ Some x → TakesByArc n n.arcs p y → are_same (number_at numbers x) (number_at numbers y) ≡ false → IsReached (least_split n numbers takers n.arcs) (record { x = x; y = y; place = p })
+  reached_at : (x y p : ℕ) → taker_at takers p ≡ Some x → TakesByArc n n.arcs p y → are_same_numbers (number_at numbers x) (number_at numbers y) ≡ false → IsReached (least_split n numbers takers n.arcs) (record { x = x; y = y; place = p })
   reached_at x y p taker_is t differ =
       let here : taker_at takers t.arc.place ≡ Some x = ap (taker_at takers) t.place_is ∙ taker_is in
       let split : split_at n numbers takers t.arc ≡ Some (record { x = x; y = y; place = p }) =
       split_whole numbers (taker_at takers t.arc.place) (own_taker n t.arc) t.arc.place x y here t.own differ ∙ ap (λ q. Some (let c : Split = record { x = x; y = y; place = q } in c)) t.place_is in
       least_split-reaches n numbers takers t.arc n.arcs (record { x = x; y = y; place = p }) t.at t.inside (t.arc_is t.arc) split
 
-  reached_by_taker : (x y p : ℕ) (o : Option ℕ) → taker_at takers p ≡ o → IsAtMost o x → are_same (number_at numbers x) (number_at numbers y) ≡ false → TakesByArc n n.arcs p x → TakesByArc n n.arcs p y
+  reached_by_taker : (x y p : ℕ) (o : Option ℕ) → taker_at takers p ≡ o → IsAtMost o x → are_same_numbers (number_at numbers x) (number_at numbers y) ≡ false → TakesByArc n n.arcs p x → TakesByArc n n.arcs p y
       → IsReached (least_split n numbers takers n.arcs) (record { x = x; y = y; place = p })
   reached_by_taker x y p None taker_is low differ t u = absurd low
-  reached_by_taker x y p (Some z) taker_is low differ t u = elim (cases_Bool (are_same (number_at numbers z) (number_at numbers y))) [
+  reached_by_taker x y p (Some z) taker_is low differ t u = elim (cases_Bool (are_same_numbers (number_at numbers z) (number_at numbers y))) [
     | inr other ↦ reached_up (least_split n numbers takers n.arcs) (record { x = z; y = y; place = p }) (record { x = x; y = y; place = p }) (reached_at z y p taker_is u other) (not_lesser_first x y z p low)
     | inl same ↦
         let z_is : number_at numbers z ≡ number_at numbers y = same_true (number_at numbers z) (number_at numbers y) same in
-        let apart : are_same (number_at numbers z) (number_at numbers x) ≡ false = ap (λ o. are_same o (number_at numbers x)) z_is ∙ differ_turn (number_at numbers x) (number_at numbers y) differ in
+        let apart : are_same_numbers (number_at numbers z) (number_at numbers x) ≡ false = ap (λ o. are_same_numbers o (number_at numbers x)) z_is ∙ differ_turn (number_at numbers x) (number_at numbers y) differ in
         reached_up (least_split n numbers takers n.arcs) (record { x = z; y = x; place = p }) (record { x = x; y = y; place = p }) (reached_at z x p taker_is t apart) (not_lesser_second x y z p (differ_up z x low apart))
   ]
 
@@ -134,7 +134,7 @@ module _ (n : NetLists) (groups : List Group) (numbers takers : List (Option ℕ
       let inner = and_parts (stands_in groups x) (stands_in groups y) outer.0 in
       let x_driven = stands_driven n groups x named inner.0 in
       let y_driven = stands_driven n groups y named inner.1 in
-      let differ : are_same (number_at numbers x) (number_at numbers y) ≡ false = same_numbers x y x_driven y_driven ∙ apart_differ groups x y is.apart in
+      let differ : are_same_numbers (number_at numbers x) (number_at numbers y) ≡ false = same_numbers x y x_driven y_driven ∙ apart_differ groups x y is.apart in
       reached_by_taker x y p (taker_at takers p) refl ((least.each p).least x x_driven is.x_takes) differ (own_arc n p x x_driven is.x_takes) (own_arc n p y y_driven is.y_takes)
 
   pub some_split : (c : Split) → Some c ≡ least_split n numbers takers n.arcs → IsLeastSplit n groups c.x c.y c.place

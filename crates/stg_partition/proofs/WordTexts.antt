@@ -8,7 +8,7 @@ use Rattle.std.proofs.lemmas.List.Folds.{list_any-append}
 use Rattle.stg_net.specs.declared.signal.Signal.{Signal}
 use Rattle.stg_net.specs.Graph.{is_among}
 use Rattle.astg_lex.specs.declared.words.Word.{Word}
-use Rattle.stg_partition.specs.PartitionText.{Row, names_output, words_in}
+use Rattle.stg_partition.specs.PartitionText.{GroupRow, names_output, words_of_rows}
 use Rattle.stg_laws.specs.PlainGroups.{Group}
 use Rattle.stg_partition.specs.Partition.{row_group}
 use Rattle.stg_net.specs.Net.{NetLists}
@@ -22,12 +22,12 @@ pub outputs_texts : (signals : List Signal) (words : List Word) → list_all (λ
 outputs_texts signals [] = refl
 outputs_texts signals (x ∷ words) = ap (λ b. names_output signals x.text.now && b) (outputs_texts signals words)
 
-pub among_append : (xs ys : Row) (w : List ℕ) → is_among (xs ++ ys) w ≡ (is_among xs w || is_among ys w)
+pub among_append : (xs ys : GroupRow) (w : List ℕ) → is_among (xs ++ ys) w ≡ (is_among xs w || is_among ys w)
 among_append xs ys w = list_any-append (λ known. bytes_eq known w) xs ys
 
-pub among_rows : (rows : List (List Word)) (w : List ℕ) → list_any (λ (row : List Word). is_among (texts_of row) w) rows ≡ is_among (words_in (all_texts rows)) w
+pub among_rows : (rows : List (List Word)) (w : List ℕ) → list_any (λ (row : List Word). is_among (texts_of row) w) rows ≡ is_among (words_of_rows (all_texts rows)) w
 among_rows [] w = refl
-among_rows (row ∷ rows) w = ap (λ b. is_among (texts_of row) w || b) (among_rows rows w) ∙ sym (among_append (texts_of row) (words_in (all_texts rows)) w)
+among_rows (row ∷ rows) w = ap (λ b. is_among (texts_of row) w || b) (among_rows rows w) ∙ sym (among_append (texts_of row) (words_of_rows (all_texts rows)) w)
 
 -- the groups of one row more
 pub groups_more : (n : NetLists) (rows : List (List Word)) (i : ℕ) (groups new : List Group) (g : Group) → i < length rows → groups ≡ map (row_group n) (map texts_of (take i rows)) → g ≡ row_group n (texts_of (get_or rows i [])) → new ≡ groups ++ g ∷ []

@@ -10,22 +10,22 @@ use Rattle.stg_laws.specs.Groups.{is_driven_at, takes_from, known_to}
 use Rattle.stg_laws.specs.PlainGroups.{Group, AreFeasible}
 use Rattle.stg_partition.specs.declared.error.GroupError.{GroupError}
 use Rattle.stg_partition.specs.declared.error.GroupError.TheVariants as errors
-use Rattle.stg_partition.specs.PartitionText.{Row, rows_of}
+use Rattle.stg_partition.specs.PartitionText.{GroupRow, rows_of}
 
 -- whether the row has the name of the signal of that number
-abbrev pub is_named_in : List Signal → Row → ℕ → Bool
+abbrev pub is_named_in : List Signal → GroupRow → ℕ → Bool
 is_named_in signals row s = is_among row (signal_at signals s).name
 
 -- the signals that a row names, in ascending order
-abbrev pub own_of : NetLists → Row → List ℕ
+abbrev pub own_of : NetLists → GroupRow → List ℕ
 own_of n row = numbers_where (is_named_in n.signals row) (length n.signals)
 
 -- the group of a row
-abbrev pub row_group : NetLists → Row → Group
+abbrev pub row_group : NetLists → GroupRow → Group
 row_group n row = record { own = own_of n row; known = known_to n (own_of n row) }
 
 -- a group for each row
-abbrev pub row_groups : NetLists → Result (List Row) GroupError → Result (List Group) GroupError
+abbrev pub row_groups : NetLists → Result (List GroupRow) GroupError → Result (List Group) GroupError
 row_groups n (Ok rows) = Ok (map (row_group n) rows)
 row_groups n (Err e) = Err e
 
@@ -43,8 +43,8 @@ stand_together groups x y =
     list_any (λ (group : Group). is_one_of group.own x && is_one_of group.own y) groups
 
 -- whether the signals stand in different groups
-abbrev pub are_apart : List Group → ℕ → ℕ → Bool
-are_apart groups x y =
+abbrev pub stand_apart : List Group → ℕ → ℕ → Bool
+stand_apart groups x y =
     stands_in groups x && stands_in groups y && not (stand_together groups x y)
 
 -- whether the signal is an output or internal one that stands in no group
@@ -63,7 +63,7 @@ AreWhole n groups = (s : ℕ) → ¬ IsTrue (is_missing n groups s)
 -- x and y, the lesser first, stand in different groups, and transitions of both take from the place
 pub record IsSplit (n : NetLists) (groups : List Group) (x y place : ℕ) : Type 0 where
   pub ascends : x < y
-  pub apart : IsTrue (are_apart groups x y)
+  pub apart : IsTrue (stand_apart groups x y)
   pub x_takes : IsTrue (takes_from n x place)
   pub y_takes : IsTrue (takes_from n y place)
 

@@ -25,11 +25,11 @@ pub enum GroupError {
 }
 
 impl GroupError {
-    ghost use Rattle.stg_partition.specs.ErrorNumbers.{error_number};
+    ghost use Rattle.stg_partition.specs.ErrorNumbers.{group_error_number};
 
     /// The number of the error, from 1 to 6.
     pub fn number(self) -> u8
-        ensures { result ≡ error_number self }
+        ensures { result ≡ group_error_number self }
     {
         match self {
             GroupError::BadLine { line: _ } => 1,

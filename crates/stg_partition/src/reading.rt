@@ -64,21 +64,21 @@ fn has_row_with(rows: &[Seq<Word<'_>>], word: &[u8]) -> bool
 }
 
 fn is_in_rows(rows: &[Seq<Word<'_>>], word: &[u8]) -> bool
-    ensures { result ≡ graphs.is_among (lists.words_in (all_texts rows.now)) word.now }
+    ensures { result ≡ graphs.is_among (lists.words_of_rows (all_texts rows.now)) word.now }
 {
     has_row_with(rows, word)
 }
 
 fn stood_before(rows: &[Seq<Word<'_>>], words: &[Word<'_>], word: &[u8]) -> bool
     ensures { result
-        ≡ graphs.is_among (lists.words_in (all_texts rows.now) ++ texts_of words.now) word.now }
+        ≡ graphs.is_among (lists.words_of_rows (all_texts rows.now) ++ texts_of words.now) word.now }
 {
     is_in_rows(rows, word) || is_among(words, word)
 }
 
 fn stands_again(rows: &[Seq<Word<'_>>], words: &[Word<'_>]) -> bool
     ensures { result
-        ≡ lists.stands_again (lists.words_in (all_texts rows.now)) (texts_of words.now) }
+        ≡ lists.stands_again (lists.words_of_rows (all_texts rows.now)) (texts_of words.now) }
 {
     for (i, word) in words.iter().enumerate() {
         if stood_before(rows, &words[..i], word.text) {
@@ -109,7 +109,7 @@ fn test_row(
 
 fn push_row<'a>(rows: &mut Seq<Seq<Word<'a>>>, words: Seq<Word<'a>>) -> Result<(), NoMemory>
     ensures { OnOk result
-        (all_texts rows.new ≡ lists.with_row (all_texts rows.old) (texts_of words.entry)) }
+        (all_texts rows.new ≡ lists.with_group_row (all_texts rows.old) (texts_of words.entry)) }
 {
     if !words.is_empty() {
         rows.push(words)?;

@@ -59,13 +59,13 @@ fn find_takers(alloc: Global, net: &Net) -> Result<Vec<Option<u32>>, NoMemory>
 }
 
 fn is_lesser(c: Split, d: Split) -> bool
-    ensures { result ≡ lists.is_lesser c d }
+    ensures { result ≡ lists.is_lesser_split c d }
 {
     c.x < d.x || c.x == d.x && (c.y < d.y || c.y == d.y && c.place < d.place)
 }
 
 fn least_of(one: Option<Split>, other: Option<Split>) -> Option<Split>
-    ensures { result ≡ lists.lesser one other }
+    ensures { result ≡ lists.lesser_split one other }
 {
     match (one, other) {
         (Some(c), Some(d)) => Some(if is_lesser(d, c) { d } else { c }),

@@ -34,7 +34,7 @@ abbrev pub AreAllNumbered : NetLists → List (Option ℕ) → Type 0
 AreAllNumbered n numbers = (r : ℕ) → r < length n.signals → is_unnumbered n numbers r ≡ false
 
 -- whether both are the same number
-abbrev pub are_same : Option ℕ → Option ℕ → Bool
-are_same (Some j) (Some k) = j == k
-are_same (Some j) None = false
-are_same None k = is_none k
+abbrev pub are_same_numbers : Option ℕ → Option ℕ → Bool
+are_same_numbers (Some j) (Some k) = j == k
+are_same_numbers (Some j) None = false
+are_same_numbers None k = is_none k

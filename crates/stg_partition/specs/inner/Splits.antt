@@ -5,7 +5,7 @@ use Rattle.stg_net.specs.Net.{NetLists}
 use Rattle.stg_laws.specs.Groups.{is_driven_at, takes_from}
 use Rattle.stg_partition.specs.declared.splits.Split.{Split}
 use Rattle.stg_partition.specs.inner.Joining.{own_taker, taker_at}
-use Rattle.stg_partition.specs.inner.Numbers.{number_at, are_same}
+use Rattle.stg_partition.specs.inner.Numbers.{number_at, are_same_numbers}
 
 -- the lesser of a place's taker and another signal
 abbrev pub lesser_taker : Option ℕ → ℕ → ℕ
@@ -37,20 +37,20 @@ pub record AreLeastTakers (n : NetLists) (takers : List (Option ℕ)) : Type 0 w
   pub each : (p : ℕ) → IsLeastTaker n p (taker_at takers p)
 
 -- whether c is the lesser: by the first signal, then by the second, then by the place
-abbrev pub is_lesser : Split → Split → Bool
-is_lesser c d =
+abbrev pub is_lesser_split : Split → Split → Bool
+is_lesser_split c d =
     nat_lt c.x d.x || (c.x == d.x) && (nat_lt c.y d.y || (c.y == d.y) && nat_lt c.place d.place)
 
 -- the lesser of two, where there is one
-abbrev pub lesser : Option Split → Option Split → Option Split
-lesser (Some c) (Some d) = Some (if is_lesser d c then d else c)
-lesser (Some c) None = Some c
-lesser None d = d
+abbrev pub lesser_split : Option Split → Option Split → Option Split
+lesser_split (Some c) (Some d) = Some (if is_lesser_split d c then d else c)
+lesser_split (Some c) None = Some c
+lesser_split None d = d
 
 -- the split of a place's taker and an own taker at it, where their numbers differ
 abbrev pub split_of : List (Option ℕ) → Option ℕ → Option ℕ → ℕ → Option Split
 split_of numbers (Some x) (Some y) p =
-    if are_same (number_at numbers x) (number_at numbers y) then None
+    if are_same_numbers (number_at numbers x) (number_at numbers y) then None
     else Some (record { x = x; y = y; place = p })
 split_of numbers (Some x) None p = None
 split_of numbers None y p = None
@@ -65,7 +65,7 @@ abbrev pub least_split :
     NetLists → List (Option ℕ) → List (Option ℕ) → List NetArc → Option Split
 least_split n numbers takers [] = None
 least_split n numbers takers (a ∷ arcs) =
-    lesser (split_at n numbers takers a) (least_split n numbers takers arcs)
+    lesser_split (split_at n numbers takers a) (least_split n numbers takers arcs)
 
 -- the split is the least of all arcs, by the least takers of the places
 pub record IsFound (n : NetLists) (numbers : List (Option ℕ)) (split : Option Split) : Type 0 where
