@@ -10,7 +10,8 @@ use Rattle.stg_laws.specs.Stgs.{is_driven}
 use Rattle.stg_laws.proofs.Declaring.{Declares}
 use Rattle.stg_laws.specs.PlainGroups.{Group, AreFeasible}
 use Rattle.stg_laws.proofs.FeasibleGroups.{plain_feasible}
-use Rattle.stg_decomp.specs.Parts.{no_group, AreGroupsOf}
+use Rattle.stg_crew.specs.Parts.{no_group}
+use Rattle.stg_decomp.specs.Parts.{AreGroupsOf}
 
 -- the groups of a specification are feasible
 pub groups_feasible : (n : NetLists) (partition : Option (List ℕ)) (groups : List Group) → AreGroupsOf n partition groups → AreFeasible n groups

@@ -1,6 +1,5 @@
 pub mod Grouped
 pub mod Anys
-pub mod Deriving
 pub mod Replaced
 pub mod SettledSignals
 pub mod SettledNets

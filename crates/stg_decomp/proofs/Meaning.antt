@@ -1,5 +1,5 @@
 -- The settled parts of feasible groups are faithful components, and a correct decomposition of the specification where it is deterministic.
-use Rattle.std.proofs.Common.{◌≡◌, ℕ, ◌<◌, ◌≤◌, true, List, map, length, All, refl, sym, ap, subst, arith}
+use Rattle.std.proofs.Common.{◌≡◌, ℕ, ◌<◌, ◌≤◌, true, List, map, length, get_or, All, refl, sym, ap, subst, arith}
 use Rattle.std.specs.List.{range_with_len}
 use Rattle.std.proofs.lemmas.List.FromFn.{length-map-range_with_len}
 use Rattle.stg_net.specs.Component.{is_one_of}
@@ -16,8 +16,10 @@ use Rattle.stg_partition.proofs.Numbers.{numbers_pass}
 use Rattle.stg_laws.proofs.KnownSignals.{passing_contained}
 use Rattle.stg_derive.specs.declared.part.Part.{Part}
 use Rattle.stg_derive.specs.Derivations.{with_restored}
-use Rattle.stg_decomp.specs.Settled.{no_part, part_at, settled_part, settled_parts}
-use Rattle.stg_decomp.specs.Parts.{no_group, group_in, AreDerived, ArePartsOf, nets_of}
+use Rattle.stg_crew.specs.Parts.{no_part, part_at}
+use Rattle.stg_decomp.specs.Settled.{settled_part, settled_parts}
+use Rattle.stg_crew.specs.Parts.{no_group, group_in, AreDerived}
+use Rattle.stg_decomp.specs.Parts.{ArePartsOf, nets_of}
 use Rattle.stg_derive.proofs.FinishedParts.{AreInRange}
 use Rattle.stg_decomp.proofs.DerivedParts.{part_is_derived}
 use Rattle.stg_decomp.proofs.SettledNets.{IsDerivedNet, derived_nets_are_components}
@@ -28,6 +30,12 @@ pub known_in_range : (n : NetLists) (groups : List Group) → AreFeasible n grou
 known_in_range n groups feasible i below =
     let g = group_in groups i in
     subst (AreInRange n) (sym (feasible.feasible i no_group below).known) (λ k d low. (numbers_pass (is_known_to n g.own) (length n.signals) k d low).below)
+
+-- so it is of all groups
+pub all_in_range : (n : NetLists) (groups : List Group) → AreFeasible n groups → All (λ (g : Group). AreInRange n g.known) groups
+all_in_range n groups feasible i d below =
+    let g = get_or groups i d in
+    subst (AreInRange n) (sym (feasible.feasible i d below).known) (λ k e low. (numbers_pass (is_known_to n g.own) (length n.signals) k e low).below)
 
 module _ (n : NetLists) (net : IsNet n) (groups : List Group) (feasible : AreFeasible n groups) where
   pub group_closed : (i : ℕ) → i < length groups → IsClosed (graph_of n) (names_at n (group_in groups i).own) (names_at n (group_in groups i).known)

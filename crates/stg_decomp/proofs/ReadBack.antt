@@ -11,7 +11,8 @@ use Rattle.astg_write.specs.Writable.{IsWritable}
 use Rattle.astg_write.proofs.WrittenBack.{component-reads_back}
 use Rattle.stg_laws.specs.PlainGroups.{Group}
 use Rattle.stg_derive.specs.declared.part.Part.{Part}
-use Rattle.stg_decomp.specs.Settled.{no_part, part_at, shared_in, settled_part, settled_parts}
+use Rattle.stg_crew.specs.Parts.{no_part, part_at}
+use Rattle.stg_decomp.specs.Settled.{shared_in, settled_part, settled_parts}
 use Rattle.stg_decomp.specs.Parts.{ArePartsOf, nets_of}
 
 -- what is put in order for the i-th part

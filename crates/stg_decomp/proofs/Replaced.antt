@@ -7,7 +7,8 @@ use Rattle.stg_net.specs.Net.{NetLists}
 use Rattle.astg_write.specs.Writable.{IsWritable}
 use Rattle.stg_derive.specs.declared.part.Part.{Part}
 use Rattle.stg_derive.specs.Loggable.{IsLoggable}
-use Rattle.stg_decomp.specs.Settled.{no_part, part_at, settled_part, settled_parts}
+use Rattle.stg_crew.specs.Parts.{no_part, part_at}
+use Rattle.stg_decomp.specs.Settled.{settled_part, settled_parts}
 use Rattle.stg_decomp.specs.inner.Settling.{with_net, parts_with_nets}
 use Rattle.stg_decomp.specs.Parts.{net_at}
 

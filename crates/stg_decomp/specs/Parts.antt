@@ -5,26 +5,13 @@ use Rattle.stg_net.specs.Net.{NetLists}
 use Rattle.stg_laws.specs.PlainGroups.{Group, ArePlainGroups}
 use Rattle.stg_partition.specs.Partition.{ArePartition}
 use Rattle.stg_derive.specs.declared.part.Part.{Part}
-use Rattle.stg_derive.specs.Derivations.{IsDerivedPart}
-use Rattle.stg_decomp.specs.Settled.{no_part, part_at, settled_parts}
-
--- a group without signals, which stands at no number
-abbrev pub no_group : Group
-no_group = record { own = []; known = [] }
-
--- the group of that number
-abbrev pub group_in : List Group → ℕ → Group
-group_in groups i = slice_index_or groups i no_group
+use Rattle.stg_crew.specs.Parts.{AreDerived, no_part}
+use Rattle.stg_decomp.specs.Settled.{settled_parts}
 
 -- the groups are the plain ones, or the feasible ones that the text names
 abbrev pub AreGroupsOf : NetLists → Option (List ℕ) → List Group → Type 0
 AreGroupsOf n None groups = ArePlainGroups n groups
 AreGroupsOf n (Some text) groups = ArePartition n text groups
-
--- the parts are those of the groups' plain derivations, in the order of the groups
-pub record AreDerived (n : NetLists) (groups : List Group) (parts : List Part) : Type 0 where
-  pub as_many : length parts ≡ length groups
-  pub each : (i : ℕ) → i < length groups → IsDerivedPart n (group_in groups i) (part_at parts i)
 
 -- the parts are those of the groups' plain derivations, settled among each other
 pub record ArePartsOf (n : NetLists) (groups : List Group) (parts : List Part) : Type 0 where

@@ -1,6 +1,6 @@
 -- Parts that are settled among each other: an internal signal that another part knows becomes an
 -- output, and each net is put in order.
-use Rattle.std.specs.Prelude.{◌&&◌, ◌==◌, ℕ, Bool, not, List, [], length, map, slice_index_or}
+use Rattle.std.specs.Prelude.{◌&&◌, ◌==◌, ℕ, Bool, not, List, length, map}
 use Rattle.std.specs.List.{list_any, range_with_len}
 use Rattle.std.specs.Str.{bytes_eq}
 use Rattle.stg_net.specs.declared.signal.Signal.{Signal}
@@ -8,21 +8,7 @@ use Rattle.stg_net.specs.Component.{component}
 use Rattle.stg_net.specs.Net.{NetLists, signal_at}
 use Rattle.stg_net.specs.Ordered.{ordered, numbers_where}
 use Rattle.stg_derive.specs.declared.part.Part.{Part}
-
--- a part without anything, which stands at no number
-abbrev pub no_part : Part
-no_part = record {
-  net = record { signals = []; trans = []; tokens = []; arcs = [] };
-  own = [];
-  known = [];
-  restored = [];
-  steps = [];
-  wear = record { edits = 0; undone = 0 };
-}
-
--- the part of that number
-abbrev pub part_at : List Part → ℕ → Part
-part_at parts i = slice_index_or parts i no_part
+use Rattle.stg_crew.specs.Parts.{part_at}
 
 -- whether the net has a signal of that name
 abbrev pub has_name : List ℕ → NetLists → Bool

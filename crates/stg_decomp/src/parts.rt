@@ -1,6 +1,6 @@
 //! One part for each group.
 
-ghost use Rattle.std.specs.Prelude.{◌≡◌, ◌<◌, ◌≤◌, ◌^◌, ◌↔◌, ◌⊎◌, None, length, All, IfOk, IfErr, IfSome};
+ghost use Rattle.std.specs.Prelude.{◌≡◌, ◌≤◌, ◌↔◌, ◌⊎◌, None, length, All, IfOk, IfErr, IfSome};
 ghost use Rattle.std.specs.Option.{option_copied};
 ghost use Rattle.stg_net.specs.declared.limits.TheConstants.Limits.{SPEC, PART};
 ghost use Rattle.stg_net.specs.Net.{IsNet, IsWithin};
@@ -9,11 +9,10 @@ ghost use Rattle.stg_laws.specs.Conflict.{HasNoAutoConflict, IsLeastClash};
 ghost use Rattle.stg_laws.specs.Faithful.{AreComponents};
 ghost use Rattle.stg_laws.specs.PlainGroups.{AreFeasible, AreClosed};
 ghost use Rattle.stg_decomp.specs.Telling.{clash_told, refusal_told, IsPartitionRefusedBy};
-ghost use Rattle.stg_derive.specs.declared.part.Part.{Part};
-ghost use Rattle.stg_derive.specs.Derivations.{IsDerivedPart};
+ghost use Rattle.stg_derive.specs.declared.part.Part.{Part as ThisPart};
+ghost use Rattle.stg_crew.specs.Parts.{AreDerived};
 ghost use Rattle.stg_derive.specs.Loggable.{IsLoggable};
-ghost use Rattle.stg_decomp.specs.Parts.{AreGroupsOf, AreDerived, ArePartsOf, AreParts, nets_of};
-ghost use Rattle.stg_decomp.specs.Parts as parts;
+ghost use Rattle.stg_decomp.specs.Parts.{AreGroupsOf, ArePartsOf, AreParts, nets_of};
 ghost use Rattle.stg_decomp.specs.inner.Refusing.{refused_groups};
 ghost use Rattle.astg_write.specs.Writable.{IsWritable};
 ghost use Rattle.astg_write.specs.ReadsBack.{AreReadBack};
@@ -21,54 +20,34 @@ ghost use Rattle.astg_write.specs.ReadsBack.{AreReadBack};
 use crate::settle::settle_all;
 use crate::{Answer, DecompError};
 use std::alloc::Global;
+use std::thread::Threads;
 use stg_conflict::no_auto_conflict;
-use stg_derive::{Part, derive};
+use stg_crew::{Gate, work};
+use stg_derive::Part;
 use stg_net::{NoMemory, Seq, Spec};
 use stg_partition::{Group, GroupError, plain_groups, read_groups};
 
-/// The group of number i.
-fn group_at(groups: &[Group], i: u32) -> &Group
-    requires { i < length groups.now }
-    ensures { result.now ≡ parts.group_in groups.now i }
-{
-    &groups[i as usize]
-}
-
-/// Derives the part of the group of number i.
-fn derive_one(alloc: Global, spec: &Spec, groups: &[Group], i: u32) -> Result<Part, NoMemory>
+/// The parts of the groups, in their order, which the workers draw.
+fn derive_all<R: Threads + Sync, G: Gate>(
+    rt: &R,
+    alloc: Global,
+    spec: &Spec,
+    groups: &[Group],
+    workers: u32,
+    gate: &G,
+) -> Result<Seq<Part>, NoMemory>
     requires within { IsWithin SPEC spec.now.net }
     requires feasible { AreFeasible spec.now.net groups.now }
     requires closed { AreClosed spec.now.net groups.now }
     requires no_conflict { HasNoAutoConflict (graph_of spec.now.net) }
-    requires there { i < length groups.now }
-    ensures derived { IfOk result
-        (λ part. IsDerivedPart spec.now.net (parts.group_in groups.now i) part) }
-    ensures net { IfOk result (λ part. IsNet part.net) }
-    ensures writable { IfOk result (λ part. IsWritable part.net) }
-    ensures loggable { IfOk result (λ part. IsLoggable spec.now.net part) }
-{
-    let part = derive(alloc, spec, group_at(groups, i))?;
-    Ok(part)
-}
-
-/// Derives the part of each group, in their order.
-fn derive_all(alloc: Global, spec: &Spec, groups: &[Group]) -> Result<Seq<Part>, NoMemory>
-    requires within { IsWithin SPEC spec.now.net }
-    requires feasible { AreFeasible spec.now.net groups.now }
-    requires closed { AreClosed spec.now.net groups.now }
-    requires no_conflict { HasNoAutoConflict (graph_of spec.now.net) }
-    requires few { length groups.now < 2 ^ 32 }
+    requires workers { (1 ≤ workers) × (workers ≤ 64) }
     ensures derived { IfOk result (λ parts. AreDerived spec.now.net groups.now parts) }
-    ensures nets { IfOk result (λ parts. All (λ (part : Part). IsNet part.net) parts) }
-    ensures writable { IfOk result (λ parts. All (λ (part : Part). IsWritable part.net) parts) }
+    ensures nets { IfOk result (λ parts. All (λ (part : ThisPart). IsNet part.net) parts) }
+    ensures writable { IfOk result (λ parts. All (λ (part : ThisPart). IsWritable part.net) parts) }
     ensures loggable { IfOk result (λ parts. All (IsLoggable spec.now.net) parts) }
 {
-    let mut parts = Seq::new(alloc);
-    for i in 0..groups.len() as u32 {
-        let part = derive_one(alloc, spec, groups, i)?;
-        parts.push(part)?;
-    }
-    Ok(parts)
+    let worked = work(rt, alloc, spec, groups, workers, gate)?;
+    Ok(worked.parts)
 }
 
 /// The groups that the text names, or the plain ones.
@@ -93,7 +72,15 @@ fn find_groups(
 }
 
 /// The settled parts of the groups of a specification without structural auto-conflicts.
-fn make_answer(alloc: Global, spec: &Spec, groups: &[Group]) -> Result<Answer, NoMemory>
+fn make_answer<R: Threads + Sync, G: Gate>(
+    rt: &R,
+    alloc: Global,
+    spec: &Spec,
+    groups: &[Group],
+    workers: u32,
+    gate: &G,
+) -> Result<Answer, NoMemory>
+    requires workers { (1 ≤ workers) × (workers ≤ 64) }
     requires within { IsWithin SPEC spec.now.net }
     requires no_conflict { HasNoAutoConflict (graph_of spec.now.net) }
     requires feasible { AreFeasible spec.now.net groups.now }
@@ -101,13 +88,13 @@ fn make_answer(alloc: Global, spec: &Spec, groups: &[Group]) -> Result<Answer, N
     ensures parts { IfOk result (λ answer. ArePartsOf spec.now.net groups.now answer.parts) }
     ensures few { IfOk result (λ answer. length answer.parts ≤ PART.signals) }
     ensures writable { IfOk result
-        (λ answer. All (λ (part : Part). IsWritable part.net) answer.parts) }
+        (λ answer. All (λ (part : ThisPart). IsWritable part.net) answer.parts) }
     ensures loggable { IfOk result (λ answer. All (IsLoggable spec.now.net) answer.parts) }
     ensures meaning { IfOk result (λ answer. AreComponents spec.now.net (nets_of answer.parts)) }
     ensures reads_back { IfOk result (λ answer. AreReadBack (nets_of answer.parts)) }
 {
     let _net = spec.net();
-    let derived = derive_all(alloc, spec, groups)?;
+    let derived = derive_all(rt, alloc, spec, groups, workers, gate)?;
     let parts = settle_all(alloc, derived)?;
     Ok(Answer { parts })
 }
@@ -127,21 +114,26 @@ fn refuse(error: GroupError) -> DecompError
 /// without a text the plain ones. Each part's net has exactly the specification's traces on its
 /// signals; together they are a correct decomposition of it, where it is deterministic. Each net
 /// can be written and is read back from its text, and the records and steps of each part can be
-/// logged.
+/// logged. The workers, 1 to 64 of them, draw the groups, and the gate is entered before each is
+/// derived; neither changes the parts.
 ///
 /// A specification with a structural auto-conflict is answered by the least one, whatever the text
 /// is; another one by the refusal of the text, where it is refused.
-pub fn decompose(
+pub fn decompose<R: Threads + Sync, G: Gate>(
+    rt: &R,
     alloc: Global,
     spec: &Spec,
     partition: Option<&[u8]>,
+    workers: u32,
+    gate: &G,
 ) -> Result<Answer, DecompError>
-    requires { IsWithin SPEC spec.now.net }
+    requires within { IsWithin SPEC spec.now.net }
+    requires workers { (1 ≤ workers) × (workers ≤ 64) }
     ensures parts { IfOk result
         (λ answer. AreParts spec.now.net (option_copied partition.entry) answer.parts) }
     ensures few { IfOk result (λ answer. length answer.parts ≤ PART.signals) }
     ensures writable { IfOk result
-        (λ answer. All (λ (part : Part). IsWritable part.net) answer.parts) }
+        (λ answer. All (λ (part : ThisPart). IsWritable part.net) answer.parts) }
     ensures loggable { IfOk result (λ answer. All (IsLoggable spec.now.net) answer.parts) }
     ensures meaning { IfOk result (λ answer. AreComponents spec.now.net (nets_of answer.parts)) }
     ensures reads_back { IfOk result (λ answer. AreReadBack (nets_of answer.parts)) }
@@ -159,7 +151,7 @@ pub fn decompose(
         Ok(groups) => groups,
         Err(error) => return Err(refuse(error)),
     };
-    match make_answer(alloc, spec, groups.as_slice()) {
+    match make_answer(rt, alloc, spec, groups.as_slice(), workers, gate) {
         Ok(answer) => Ok(answer),
         Err(NoMemory) => Err(DecompError::NoMemory),
     }

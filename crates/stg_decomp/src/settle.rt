@@ -5,6 +5,7 @@ ghost use Rattle.std.specs.Prelude.{◌≡◌, ◌<◌, ◌^◌, length, map, Al
 ghost use Rattle.std.specs.List.{range_with_len};
 ghost use Rattle.astg_write.specs.Writable.{IsWritable};
 ghost use Rattle.stg_derive.specs.declared.part.Part.{Part as ThisPart};
+ghost use Rattle.stg_crew.specs.Parts.{part_at};
 ghost use Rattle.stg_decomp.specs.Settled as lists;
 ghost use Rattle.stg_decomp.specs.inner.Settling.{parts_with_nets};
 
@@ -22,7 +23,7 @@ fn has_name(name: &[u8], net: &Net) -> bool
 /// The net of the part of number i.
 fn net_of(parts: &[Part], i: u32) -> &Net
     requires { i < length parts.now }
-    ensures { result.now ≡ (lists.part_at parts.now i).net }
+    ensures { result.now ≡ (part_at parts.now i).net }
 {
     &parts[i as usize].net
 }

@@ -5,7 +5,7 @@ ghost use Rattle.stg_net.specs.declared.limits.TheConstants.Limits.{PART};
 ghost use Rattle.stg_net.specs.Net.{NetLists};
 ghost use Rattle.stg_net.specs.Ordered.{ordered};
 ghost use Rattle.astg_write.specs.Writable.{IsWritable};
-ghost use Rattle.stg_decomp.specs.Settled.{part_at};
+ghost use Rattle.stg_crew.specs.Parts.{part_at};
 ghost use Rattle.astg_write.specs.ComponentText.{component_text};
 ghost use Rattle.astg_write.specs.ReadsBack.{ReadsBack};
 

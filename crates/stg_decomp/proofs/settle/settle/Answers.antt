@@ -1,7 +1,7 @@
 use Rattle.std.proofs.Common.{subst, sym}
 use Rattle.stg_net.specs.declared.limits.TheConstants.Limits.{PART}
 use Rattle.astg_write.specs.Writable.{IsWritable}
-use Rattle.stg_decomp.specs.Settled.{no_part}
+use Rattle.stg_crew.specs.Parts.{no_part}
 use Rattle.stg_decomp.proofs.settle.settle.Goals as goal
 
 pub returns-clause-writable : goal.returns-clause-writable
