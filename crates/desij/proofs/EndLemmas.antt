@@ -1,45 +1,72 @@
--- How a run ends whose text is accepted.
-use Rattle.std.proofs.Common.{◌≡◌, ◌++◌, ◌<◌, ℕ, List, Option, None, Some, IsSome, inr, ap, ◌∙◌, append-nil, subst, length, arith}
-use Rattle.std.specs.Io.KnownBytes.{IsAtEnd, prepend_known}
-use Rattle.std.proofs.lemmas.Bool.{false≢true}
-use Rattle.desij.specs.Outside.{SeenSource, named}
-use Rattle.desij.specs.Reading.{ReadsUpTo, ReadsWhole, most_read}
-use Rattle.desij.specs.Answering.{HasAnswer}
+-- How a run ends, from how its steps end.
+use Rattle.std.proofs.Common.{◌≡◌, ℕ, List, None, Some, Bool, inl, inr, refl, sym, subst}
+use Rattle.stg_net.specs.Spec.{SpecLists}
 use Rattle.stg_derive.specs.declared.part.Part.{Part}
-use Rattle.desij.proofs.AnswerLemmas.{stands_short}
-use Rattle.desij.specs.inner.Ends.{Ends, Finishes}
-use Rattle.desij.specs.Run.{Seen, IsAccepted}
+use Rattle.desij.specs.Files.{files_of_parts}
+use Rattle.desij.specs.Printing.{printed}
+use Rattle.desij.specs.Reading.{Inputs, IsAccepted}
+use Rattle.desij.specs.Run.{Seen, LeavesFiles, Prints, BreaksOff}
+use Rattle.desij_words.specs.Words.{Decompose, Measure}
+use Rattle.desij.specs.inner.Ends.{Ends, EndsMeasure, EndsUnmade, EndsUsage, Finishes}
+use Rattle.desij.specs.inner.Unmade.{IsUnmade}
+use Rattle.desij.specs.declared.answer.Unmade.{Unmade}
+use Rattle.desij.specs.declared.answer.Unmade.TheVariants as unmade
 use Rattle.desij.specs.declared.status.Status.{Status}
 use Rattle.desij.specs.declared.status.Status.TheVariants.{Done, BadWords, Refused, ReadFault, WriteFault, PrintFault, NoMemory, ServeFault}
 
--- where the text is accepted, the run ends as the putting and printing of its parts ends
-pub accepted_ends : (name : List ℕ) (parts : List Part) (s : Status) (old new : Seen) → IsAccepted name parts old.source new.source
-    → Finishes parts s old.shelf new.shelf old.sink new.sink → Ends (Some name) s old new
-accepted_ends name parts Done old new accepted ends = record { parts = parts; source = accepted; shelf = ends.0; sink = ends.1 }
-accepted_ends name parts WriteFault old new accepted ends = record { parts = parts; source = accepted; before = ends.0.0; shelf = ends.0.1; sink = ends.1 }
-accepted_ends name parts PrintFault old new accepted ends = inr (record { parts = parts; source = accepted; shelf = ends.0; sink = ends.1 })
-accepted_ends name parts NoMemory old new accepted ends = record { shelf = inr (record { parts = parts; source = accepted; count = ends.0.0; shelf = ends.0.1 }); sink = ends.1 }
-accepted_ends name parts BadWords old new accepted ends = absurd ends
-accepted_ends name parts Refused old new accepted ends = absurd ends
-accepted_ends name parts ReadFault old new accepted ends = absurd ends
-accepted_ends name parts ServeFault old new accepted ends = absurd ends
+-- where the texts are accepted, the run ends as the putting and printing of the parts ends
+pub accepted_ends : (d : Inputs) (steps : Bool) (workers : ℕ) (spec : SpecLists) (parts : List Part) (s : Status) (old new : Seen) → IsAccepted d spec parts old.source new.source
+    → Finishes (files_of_parts spec.net steps parts) (printed parts) s old.shelf new.shelf old.sink new.sink → Ends (Some (Decompose d.spec workers d.partition steps)) s old new
+accepted_ends d steps workers spec parts Done old new accepted ends = record { spec = spec; parts = parts; source = accepted; shelf = ends.0; sink = ends.1 }
+accepted_ends d steps workers spec parts WriteFault old new accepted ends = record { spec = spec; parts = parts; source = accepted; shelf = ends.0; sink = ends.1 }
+accepted_ends d steps workers spec parts PrintFault old new accepted ends = inr (record { spec = spec; parts = parts; source = accepted; shelf = ends.0; sink = ends.1 })
+accepted_ends d steps workers spec parts NoMemory old new accepted ends = record { shelf = inr (record { spec = spec; parts = parts; source = accepted; shelf = ends.0 }); sink = ends.1 }
+accepted_ends d steps workers spec parts BadWords old new accepted ends = absurd ends
+accepted_ends d steps workers spec parts Refused old new accepted ends = absurd ends
+accepted_ends d steps workers spec parts ReadFault old new accepted ends = absurd ends
+accepted_ends d steps workers spec parts ServeFault old new accepted ends = absurd ends
 
-whole : (text : List ℕ) (found left : Option (List ℕ)) → found ≡ prepend_known text left → IsSome left → IsAtEnd left → found ≡ Some text
-whole text found None e some none = absurd (false≢true some)
-whole text found (Some rest) e some none = e ∙ ap (λ (bs : List ℕ). Some (text ++ bs)) none ∙ ap Some (append-nil text)
+-- where there are no parts, the run ends by why there are none
+pub unmade_ends : (d : Inputs) (steps : Bool) (workers : ℕ) (e : Unmade) (s : Status) (old new : Seen) → IsUnmade d e old.source new.source
+    → new.shelf ≡ old.shelf → EndsUnmade e s old.sink new.sink → Ends (Some (Decompose d.spec workers d.partition steps)) s old new
+unmade_ends d steps workers unmade.Unread s old new why same ends =
+    let P : Status → Type 0 = λ r. Ends (Some (Decompose d.spec workers d.partition steps)) r old new in
+    subst P (sym ends.0) (record { source = why; shelf = same; sink = ends.1 })
+unmade_ends d steps workers (unmade.Refused line) Refused old new why same ends = record { line = line; source = why; shelf = same; sink = ends }
+unmade_ends d steps workers (unmade.Refused line) PrintFault old new why same ends = inl (record { line = line; source = why; shelf = same; sink = ends })
+unmade_ends d steps workers (unmade.Refused line) Done old new why same ends = absurd ends
+unmade_ends d steps workers (unmade.Refused line) BadWords old new why same ends = absurd ends
+unmade_ends d steps workers (unmade.Refused line) ReadFault old new why same ends = absurd ends
+unmade_ends d steps workers (unmade.Refused line) WriteFault old new why same ends = absurd ends
+unmade_ends d steps workers (unmade.Refused line) NoMemory old new why same ends = absurd ends
+unmade_ends d steps workers (unmade.Refused line) ServeFault old new why same ends = absurd ends
+unmade_ends d steps workers unmade.NoMemory s old new why same ends =
+    let P : Status → Type 0 = λ r. Ends (Some (Decompose d.spec workers d.partition steps)) r old new in
+    subst P (sym ends.0) (record { shelf = inl same; sink = ends.1 })
 
--- a text that is read up to a bound, and is shorter, is read whole
-pub reads_whole : (most : ℕ) (name text : List ℕ) (old new : SeenSource) → ReadsUpTo most name text old new → length text < most → ReadsWhole name text old new
-reads_whole most name text old new read short = record {
-  told = λ told. whole text (named old.texts name) new.left (read.told told) (read.some_left told) (read.rest short);
-  some_left = read.some_left;
-  nothing_left = read.rest short;
-}
+-- a measurement reads and puts nothing
+pub measure_ends : (n workers : ℕ) (s : Status) (old new : Seen) → LeavesFiles old new → EndsMeasure n s old.sink new.sink → Ends (Some (Measure n workers)) s old new
+measure_ends n workers Done old new files ends =
+    let m = ends.1.0 in
+    record { spec = m.spec; parts = m.parts; answer = m.answer; files = files; sink = subst (λ line. Prints line old.sink new.sink) m.told ends.1.1 }
+measure_ends n workers Refused old new files ends = record { line = ends.0; refused = ends.1.0; files = files; sink = ends.1.1 }
+measure_ends n workers PrintFault old new files ends = elim ends.1.0 [
+  | inl m ↦ inr (record { spec = m.spec; parts = m.parts; answer = m.answer; files = files; sink = subst (λ line. BreaksOff line old.sink new.sink) m.told ends.1.1 })
+  | inr refused ↦ inl (record { line = ends.0; refused = refused; files = files; sink = ends.1.1 })
+]
+measure_ends n workers NoMemory old new files ends = record { files = files; sink = ends }
+measure_ends n workers BadWords old new files ends = absurd ends
+measure_ends n workers ReadFault old new files ends = absurd ends
+measure_ends n workers WriteFault old new files ends = absurd ends
+measure_ends n workers ServeFault old new files ends = absurd ends
 
--- a text that was read and has an answer is accepted
-pub is_accepted : (name text again : List ℕ) (parts : List Part) (old new : SeenSource) → ReadsUpTo most_read name text old new → again ≡ text → HasAnswer again parts → IsAccepted name parts old new
-is_accepted name text again parts old new read same answer = record {
-  text = text;
-  read = reads_whole most_read name text old new read (omega (arith, stands_short again answer.spec answer.stands, ap (λ (l : List ℕ). length l) same));
-  answer = let P : List ℕ → Type 0 = λ t. HasAnswer t parts in subst P same answer;
-}
+-- words that aren't of the form end with the usage
+pub usage_ends : (s : Status) (old new : Seen) → LeavesFiles old new → EndsUsage s old.sink new.sink → Ends None s old new
+usage_ends BadWords old new files ends = record { no_form = refl; files = files; sink = ends }
+usage_ends PrintFault old new files ends = record { files = files; sink = ends }
+usage_ends Done old new files ends = absurd ends
+usage_ends Refused old new files ends = absurd ends
+usage_ends ReadFault old new files ends = absurd ends
+usage_ends WriteFault old new files ends = absurd ends
+usage_ends NoMemory old new files ends = absurd ends
+usage_ends ServeFault old new files ends = absurd ends

@@ -1,5 +1,5 @@
 -- The words and the answer of worked texts, computed.
-use Rattle.std.proofs.Common.{◌≡◌, ℕ, List, [], ◌∷◌, ◌++◌, Option, None, Some, Result, Ok, Err, false, refl, codes, map}
+use Rattle.std.proofs.Common.{◌≡◌, ℕ, List, [], ◌∷◌, ◌++◌, Option, None, Some, Result, Ok, Err, false, refl, codes}
 use Rattle.std.specs.Fmt.{digits}
 use Rattle.std.specs.Option.{option_map}
 use Rattle.astg_write.specs.ComponentText.{component_text}
@@ -7,10 +7,10 @@ use Rattle.stg_net.specs.declared.limits.TheConstants.Limits.{SPEC}
 use Rattle.astg_read.specs.declared.rule.Rule.TheVariants.{NoGraph}
 use Rattle.astg_read.specs.Reading.{Meaning, Fault, reading}
 use Rattle.stg_derive.specs.declared.part.Part.{Part}
-use Rattle.stg_decomp.specs.Settled.{no_part, settled}
+use Rattle.stg_crew.specs.Parts.{no_part}
+use Rattle.stg_decomp.specs.Settled.{settled}
 use Rattle.stg_decomp.specs.Parts.{nets_of}
 use Rattle.desij.specs.Files.{part_name, net_bytes}
-use Rattle.desij.specs.Words.{file_of}
 use Rattle.desij.specs.Printing.{printed, count_text, signal_counts, net_sizes, part_line}
 
 abbrev c_element : List ℕ
@@ -66,11 +66,6 @@ c_element-file = refl
 first_name : part_name 0 ≡ codes "part1.g"
 unfolding digits
 first_name = refl
-
--- the words name a file only after `decompose`, and one that isn't empty and doesn't begin with a dash
-named_files : map file_of ((codes "decompose" ∷ codes "a.g" ∷ []) ∷ (codes "decompose" ∷ codes "-a.g" ∷ []) ∷ (codes "decompose" ∷ [] ∷ []) ∷ (codes "decompose" ∷ []) ∷ (codes "decompose" ∷ codes "a.g" ∷ codes "b.g" ∷ []) ∷ (codes "measure" ∷ codes "a.g" ∷ []) ∷ [] ∷ [])
-    ≡ Some (codes "a.g") ∷ None ∷ None ∷ None ∷ None ∷ None ∷ None ∷ []
-named_files = refl
 
 -- no bytes stand for no specification
 no_lines : reading false SPEC [] ≡ Err (record { rule = NoGraph; line = 1 })

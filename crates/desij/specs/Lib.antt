@@ -1,9 +1,4 @@
 -- What is promised.
-pub mod Outside
-pub mod Calls
-pub mod Entries
-pub mod Memory
-pub mod Words
 pub mod Reading
 pub mod Answering
 pub mod Files

@@ -1,26 +1,35 @@
-//! The answer to a text: the parts of the specification that it stands for, or its refusal.
+//! The parts of texts, or why there are none.
 
-ghost use Rattle.std.specs.Prelude.{◌≡◌, ◌≤◌, All, IfOk, IfErr, length};
+ghost use Rattle.std.specs.Prelude.{◌≡◌, ◌≤◌, Some, All, length, IfOk, IfErr};
+ghost use Rattle.std.specs.Option.{option_copied};
 ghost use Rattle.stg_net.specs.Initial.{graph_of};
-ghost use Rattle.stg_net.specs.Net.{IsWithin};
-ghost use Rattle.stg_laws.specs.Conflict.{IsLeastClash};
+ghost use Rattle.stg_net.specs.Net.{IsNet, IsWithin};
+ghost use Rattle.stg_laws.specs.Conflict.{HasNoAutoConflict, IsLeastClash};
+ghost use Rattle.stg_partition.specs.Partition.{IsRefusedPartition};
 ghost use Rattle.stg_derive.specs.declared.part.Part.{Part};
+ghost use Rattle.stg_derive.specs.Loggable.{IsLoggable};
 ghost use Rattle.astg_write.specs.Writable.{IsWritable};
 ghost use Rattle.astg_read.specs.Standing.{StandsFor, IsUnread};
-ghost use Rattle.desij.specs.Answering.{HasAnswer};
-ghost use Rattle.desij.specs.inner.Unmade.{IsTold};
+ghost use Rattle.desij.specs.Answering.{Accepts, Decomposes};
+ghost use Rattle.desij.specs.inner.Unmade.{IsTold, IsToldOf};
 
-use crate::printing::{clash_text, refusal_text};
+use crate::printing::{clash_text, groups_text, refusal_text};
+use crate::reading::TextError;
 use astg_read::{ReadError, Rule, read_spec};
 use std::alloc::Global;
-use stg_conflict::Clash;
+use std::thread::Threads;
+use stg_conflict::{Clash, no_auto_conflict};
+use stg_crew::OpenGate;
 use stg_decomp::{Answer, DecompError, decompose};
 use stg_net::{Limits, NoMemory, Spec, Text};
+use stg_partition::GroupError;
 
-/// Why a text has no parts: it is refused by a line to be printed, or memory ran out.
+/// Why there are no parts.
 #[derive(Debug, Drop)]
 pub enum Unmade {
-    /// The text is refused by this line.
+    /// A text couldn't be read.
+    Unread,
+    /// A text is refused by this line.
     Refused(Text),
     /// Memory ran out.
     NoMemory,
@@ -33,6 +42,19 @@ impl From<NoMemory> for Unmade {
 
     fn from(_: NoMemory) -> Self {
         Unmade::NoMemory
+    }
+}
+
+impl From<TextError> for Unmade {
+    ghost use Rattle.desij.specs.inner.Unmade.{unmade_by};
+
+    ghost from_gives = { λ e u. u ≡ unmade_by e };
+
+    fn from(error: TextError) -> Self {
+        match error {
+            TextError::Failed | TextError::Missing => Unmade::Unread,
+            TextError::NoMemory => Unmade::NoMemory,
+        }
     }
 }
 
@@ -59,34 +81,70 @@ fn refuse_by_clash(alloc: Global, text: &[u8], spec: &Spec, clash: Clash) -> Unm
     }
 }
 
-// Makes the parts of the specification that the text stands for.
-fn answer_of(alloc: Global, text: &[u8], spec: &Spec) -> Result<Answer, Unmade>
-    requires stands { StandsFor Limits.SPEC text.now spec.now }
-    requires within { IsWithin Limits.SPEC spec.now.net }
-    ensures answer { IfOk result (λ a. HasAnswer text.now a.parts) }
-    ensures few { IfOk result (λ a. length a.parts ≤ Limits.SPEC.signals) }
-    ensures fit { IfOk result (λ a. All (λ (p : Part). IsWritable p.net) a.parts) }
+// The specification, unless it has a structural auto-conflict.
+fn refuse_clashes(alloc: Global, text: &[u8], spec: Spec) -> Result<Spec, Unmade>
+    requires { StandsFor Limits.SPEC text.now spec }
+    ensures accepted { IfOk result (λ s. Accepts text.now s) }
+    ensures same { IfOk result (λ s. s ≡ spec) }
     ensures refused { IfErr result (λ e. IsTold text.now e) }
 {
-    match decompose(alloc, spec, None) {
-        Ok(answer) => Ok(answer),
-        Err(DecompError::Clash(clash)) => Err(refuse_by_clash(alloc, text, spec, clash)),
-        // Without a partition nothing of it is refused.
-        Err(DecompError::Groups(_)) => unreachable!(),
-        Err(DecompError::NoMemory) => Err(Unmade::NoMemory),
+    match no_auto_conflict(spec.net()) {
+        Ok(()) => Ok(spec),
+        Err(clash) => Err(refuse_by_clash(alloc, text, &spec, clash)),
     }
 }
 
-/// Makes the parts of a text.
-pub fn make_answer(alloc: Global, text: &[u8]) -> Result<Answer, Unmade>
-    ensures answer { IfOk result (λ a. HasAnswer text.now a.parts) }
-    ensures few { IfOk result (λ a. length a.parts ≤ Limits.SPEC.signals) }
-    ensures fit { IfOk result (λ a. All (λ (p : Part). IsWritable p.net) a.parts) }
+/// The specification that a text stands for, which has no structural auto-conflict.
+pub fn accept_text(alloc: Global, text: &[u8]) -> Result<Spec, Unmade>
+    ensures accepted { IfOk result (λ s. Accepts text.now s) }
+    ensures within { IfOk result (λ s. IsWithin Limits.SPEC s.net) }
     ensures refused { IfErr result (λ e. IsTold text.now e) }
 {
     match read_spec(alloc, text) {
-        Ok(spec) => answer_of(alloc, text, &spec),
+        Ok(spec) => refuse_clashes(alloc, text, spec),
         Err(ReadError::Refused { rule, line }) => Err(refuse_by_rule(alloc, text, rule, line)),
         Err(ReadError::NoMemory) => Err(Unmade::NoMemory),
+    }
+}
+
+// Refuses the partition by why it names no feasible groups.
+fn refuse_by_groups(alloc: Global, spec: &Spec, partition: &[u8], error: GroupError) -> Unmade
+    requires { IsRefusedPartition spec.now.net partition.now error }
+    ensures { IsToldOf spec.now (Some partition.now) result }
+{
+    let _net = spec.net();
+    match groups_text(alloc, spec, error) {
+        Ok(line) => Unmade::Refused(line),
+        Err(NoMemory) => Unmade::NoMemory,
+    }
+}
+
+/// The parts of a specification without structural auto-conflicts: those of its plain groups, or of
+/// the groups that a partition names.
+pub fn make_answer<R: Threads + Sync>(
+    rt: &R,
+    alloc: Global,
+    spec: &Spec,
+    partition: Option<&[u8]>,
+    workers: u32,
+) -> Result<Answer, Unmade>
+    requires no_clash { HasNoAutoConflict (graph_of spec.now.net) }
+    requires within { IsWithin Limits.SPEC spec.now.net }
+    requires workers { (1 ≤ workers) × (workers ≤ 64) }
+    ensures answer { IfOk result
+        (λ a. Decomposes spec.now (option_copied partition.entry) a.parts) }
+    ensures few { IfOk result (λ a. length a.parts ≤ Limits.SPEC.signals) }
+    ensures fit { IfOk result (λ a. All (λ (p : Part). IsWritable p.net) a.parts) }
+    ensures loggable { IfOk result (λ a. All (IsLoggable spec.now.net) a.parts) }
+    ensures refused { IfErr result (λ e. IsToldOf spec.now (option_copied partition.entry) e) }
+{
+    match decompose(rt, alloc, spec, partition, workers, &OpenGate) {
+        Ok(answer) => Ok(answer),
+        Err(DecompError::Clash(_)) => unreachable!(),
+        Err(DecompError::Groups(error)) => match partition {
+            Some(text) => Err(refuse_by_groups(alloc, spec, text, error)),
+            None => unreachable!(),
+        },
+        Err(DecompError::NoMemory) => Err(Unmade::NoMemory),
     }
 }

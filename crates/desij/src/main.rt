@@ -2,34 +2,22 @@
 #![tactic(auto)]
 
 mod answer;
-mod calls;
-mod entries;
-mod faults;
-mod file_source;
-mod folder_shelf;
-mod memory_shelf;
-mod memory_sink;
-mod memory_source;
-mod outside;
 mod printing;
 mod putting;
 mod reading;
 mod run;
 mod status;
-mod std_sink;
+mod taking;
 #[cfg(test)]
 mod tests;
-mod words;
 
-use file_source::FileSource;
-use folder_shelf::FolderShelf;
+use io_shelf::{FileSource, FolderShelf, StdSink};
 use run::run;
 use status::Status;
 use std::env;
 use std::env::Env;
 use std::io::ErrorKind;
 use std::process::ExitCode;
-use std_sink::StdSink;
 use stg_net::NoMemory;
 
 // The words after the program's name. A word that isn't UTF-8 is in no form, and neither are no
@@ -56,6 +44,7 @@ fn main(rt: HostRuntime) -> ExitCode {
     let mut shelf = FolderShelf::new(&rt);
     let mut sink = StdSink::new(&rt);
     let status = run(
+        &rt,
         rt.alloc(),
         words.as_slice(),
         &mut source,

@@ -1,20 +1,22 @@
 //! What a run prints, and how it is written to a sink.
 
-ghost use Rattle.std.specs.Prelude.{◌≡◌, ◌+◌, ◌<◌, ◌++◌, length, IfOk, OnOk, OnErr};
+ghost use Rattle.std.specs.Prelude.{◌≡◌, ◌+◌, ◌<◌, ◌++◌, ◌≤◌, length, IfOk, OnOk, OnErr};
 ghost use Rattle.std.specs.String.{string_bytes};
-ghost use Rattle.desij.specs.Answering.{clash_line};
-ghost use Rattle.desij.specs.Outside.{HasCause};
-ghost use Rattle.desij.specs.Printing.{IsPrefixPrinted, count_text, net_sizes, part_line, printed, refusal, signal_counts};
+ghost use Rattle.io_shelf.specs.Outside.{HasCause};
+ghost use Rattle.desij.specs.Printing.{IsPrefixPrinted, all_places, all_restored, all_trans, clash_line, count_text, group_line, group_refusal, measure_line, signal_word, net_sizes, part_line, printed, refusal, signal_counts};
+ghost use Rattle.stg_partition.specs.declared.error.GroupError.TheVariants as group_error;
+ghost use Rattle.desij.specs.inner.Shown.{IsShown};
 ghost use Rattle.desij.specs.Run.{Prints};
 
-use crate::outside::{Failed, Sink};
 use astg_read::Rule;
+use io_shelf::{Failed, Sink};
 use itoa::Buffer;
 use std::alloc::{AllocError, Global};
 use stg_conflict::Clash;
 use stg_decomp::Answer;
 use stg_derive::Part;
 use stg_net::{Net, NoMemory, Seq, Spec, Text, place_text, trans_text};
+use stg_partition::GroupError;
 
 /// A line for each part, and their number.
 pub fn printed_text(alloc: Global, answer: &Answer) -> Result<Text, NoMemory>
@@ -93,6 +95,118 @@ pub fn clash_text(alloc: Global, spec: &Spec, clash: Clash) -> Result<Text, NoMe
     text.extend_from_slice(trans_text(alloc, spec.net(), clash.t2)?.as_slice())?;
     text.push(b' ')?;
     text.extend_from_slice(place_text(alloc, spec, clash.place)?.as_slice())?;
+    text.push(b'\n')?;
+    Ok(text)
+}
+
+// The line that tells a rule that a line of a partition breaks.
+fn rule_text(alloc: Global, rule: &[u8], line: u32) -> Result<Text, NoMemory>
+    ensures { IfOk result (λ text. text ≡ group_line rule.now line) }
+{
+    let mut text = Seq::from_slice(alloc, b"refused partition ")?;
+    text.extend_from_slice(rule)?;
+    push_count(&mut text, b" line ", line as usize)?;
+    text.push(b'\n')?;
+    Ok(text)
+}
+
+fn push_name(text: &mut Text, spec: &Spec, s: u32) -> Result<(), NoMemory>
+    requires { s < length spec.now.net.signals }
+    ensures { OnOk result (text.new ≡ text.old ++ signal_word spec.now s) }
+{
+    text.extend_from_slice(spec.net().signals()[s as usize].name.as_slice())
+}
+
+fn missing_text(alloc: Global, spec: &Spec, s: u32) -> Result<Text, NoMemory>
+    requires { s < length spec.now.net.signals }
+    ensures { IfOk result (λ text. text ≡ group_refusal spec.now (group_error.OutputMissing s)) }
+{
+    let mut text = Seq::from_slice(alloc, b"refused partition OutputMissing ")?;
+    push_name(&mut text, spec, s)?;
+    text.push(b'\n')?;
+    Ok(text)
+}
+
+fn split_text(alloc: Global, spec: &Spec, x: u32, y: u32, place: u32) -> Result<Text, NoMemory>
+    requires first { x < length spec.now.net.signals }
+    requires second { y < length spec.now.net.signals }
+    requires place { place < length spec.now.net.tokens }
+    ensures { IfOk result
+        (λ text. text ≡ group_refusal spec.now (group_error.SplitConflict x y place)) }
+{
+    let mut text = Seq::from_slice(alloc, b"refused partition SplitConflict ")?;
+    push_name(&mut text, spec, x)?;
+    text.push(b' ')?;
+    push_name(&mut text, spec, y)?;
+    text.push(b' ')?;
+    text.extend_from_slice(place_text(alloc, spec, place)?.as_slice())?;
+    text.push(b'\n')?;
+    Ok(text)
+}
+
+/// The line that tells why a partition is refused.
+pub fn groups_text(alloc: Global, spec: &Spec, error: GroupError) -> Result<Text, NoMemory>
+    requires { IsShown spec.now.net error }
+    ensures { IfOk result (λ text. text ≡ group_refusal spec.now error) }
+{
+    match error {
+        GroupError::BadLine { line } => rule_text(alloc, b"BadLine", line),
+        GroupError::UnknownOutput { line } => rule_text(alloc, b"UnknownOutput", line),
+        GroupError::OutputTwice { line } => rule_text(alloc, b"OutputTwice", line),
+        GroupError::OutputMissing { signal } => missing_text(alloc, spec, signal),
+        GroupError::SplitConflict { x, y, place } => split_text(alloc, spec, x, y, place),
+        GroupError::NoMemory => Err(NoMemory),
+    }
+}
+
+// How many transitions, places and restored signals some parts have together.
+#[derive(Clone, Copy)]
+struct Sums {
+    trans: u128,
+    places: u128,
+    restored: u128,
+}
+
+fn sum_up(parts: &[Part]) -> Sums
+    requires { length parts.now ≤ 250 }
+    ensures trans { result.trans ≡ all_trans parts.now }
+    ensures places { result.places ≡ all_places parts.now }
+    ensures restored { result.restored ≡ all_restored parts.now }
+{
+    let mut sums = Sums {
+        trans: 0,
+        places: 0,
+        restored: 0,
+    };
+    for part in parts {
+        sums.trans += part.net.trans().len() as u128;
+        sums.places += part.net.tokens().len() as u128;
+        sums.restored += part.restored.len() as u128;
+    }
+    sums
+}
+
+#[tactic(auto, unfolding(crate::specs::Printing::count_text))]
+fn push_sum(text: &mut Text, word: &[u8], sum: u128) -> Result<(), NoMemory>
+    ensures { OnOk result (text.new ≡ text.old ++ count_text word.now sum) }
+{
+    text.extend_from_slice(word)?;
+    text.extend_from_slice(Buffer::new().format(sum).as_bytes())
+}
+
+/// The line that sums up the parts of a pipeline of so many outputs.
+#[tactic(auto, unfolding(crate::specs::Printing::measure_line))]
+pub fn measure_text(alloc: Global, count: u32, answer: &Answer) -> Result<Text, NoMemory>
+    requires { length answer.now.parts ≤ 250 }
+    ensures { IfOk result (λ text. text ≡ measure_line count answer.now.parts) }
+{
+    let sums = sum_up(answer.parts.as_slice());
+    let mut text = Seq::new(alloc);
+    push_count(&mut text, b"measure ", count as usize)?;
+    push_count(&mut text, b" parts ", answer.parts.len())?;
+    push_sum(&mut text, b" transitions ", sums.trans)?;
+    push_sum(&mut text, b" places ", sums.places)?;
+    push_sum(&mut text, b" restored ", sums.restored)?;
     text.push(b'\n')?;
     Ok(text)
 }

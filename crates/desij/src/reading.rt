@@ -2,11 +2,11 @@
 
 ghost use Rattle.std.specs.Prelude.{◌≡◌, ◌+◌, ◌<◌, ◌≤◌, length, IfOk, IsErrOf};
 ghost use Rattle.std.specs.Io.KnownBytes.{IsAtEnd, prepend_known};
-ghost use Rattle.desij.specs.Outside.{Rose};
+ghost use Rattle.io_shelf.specs.Outside.{Rose};
 ghost use Rattle.desij.specs.inner.Ends.{HasTextCause};
 ghost use Rattle.desij.specs.Reading.{ReadsUpTo};
 
-use crate::outside::{Failed, Source};
+use io_shelf::{Failed, Source};
 use std::alloc::Global;
 use stg_net::{Limits, NoMemory, Seq, Text};
 

@@ -6,13 +6,13 @@ ghost use Rattle.desij.specs.Statuses.{exit_code};
 /// How a run ends. The number is the exit status.
 #[derive(Clone, Copy, Debug, PartialEq, Eq)]
 pub enum Status {
-    /// The files are put and the lines are printed.
+    /// The files are put and the lines are printed, or a pipeline's sums.
     Done = 0,
     /// The words aren't of the form, and the usage is printed.
     BadWords = 2,
-    /// The text is refused, and the refusal is printed.
+    /// A text is refused, and the refusal is printed.
     Refused = 3,
-    /// The text couldn't be read.
+    /// A text couldn't be read.
     ReadFault = 4,
     /// A file couldn't be put.
     WriteFault = 5,

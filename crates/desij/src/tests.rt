@@ -1,16 +1,17 @@
-//! Words, texts and faults over the forms in memory, and a test of each real form.
+//! Words, texts and faults over the forms in memory, with and without options.
 
 mod derived;
+mod options;
 mod restored;
 mod rows;
 mod texts;
 
 use super::*;
-use crate::outside::{Failed, Shelf, Sink, Source};
-use rows::{NAMED, assert_rows, run_over};
+use io_shelf::pipeline;
+use rows::{NAMED, Ran, assert_given, assert_rows, run_over};
 use std::alloc::Global;
-use std::fs;
 use std::test::Fail;
+use std::thread::Threads;
 use stg_net::{Seq, Text};
 
 #[test]
@@ -76,46 +77,53 @@ fn with_comment(alloc: Global, prefix: &[u8], len: usize) -> Result<Text, NoMemo
 fn reads_up_to_the_limit_of_bytes(rt: HostRuntime) -> Result<(), Fail> {
     let text = b".inputs a\n.outputs x\n.graph\na+ x+\n.marking { }\n.end\n";
     let longest = with_comment(rt.alloc(), text, 1_048_576)?;
-    let ran = run_over(rt.alloc(), NAMED, longest.as_slice(), (0, 0, 0), 1000)?;
+    let ran = run_over(&rt, rt.alloc(), NAMED, longest.as_slice(), (0, 0, 0), 1000)?;
     assert_eq!(rt; ran.status, Status::Done);
     let longer = with_comment(rt.alloc(), b"", 1_048_577)?;
-    let ran = run_over(rt.alloc(), NAMED, longer.as_slice(), (0, 0, 0), 1000)?;
+    let ran = run_over(&rt, rt.alloc(), NAMED, longer.as_slice(), (0, 0, 0), 1000)?;
     assert_eq!(rt; ran.sink.bytes(), b"refused TooLong line 0\n".as_slice());
     Ok(())
 }
 
 #[test]
-fn puts_a_file_into_the_folder(rt: HostRuntime) -> Result<(), Fail> {
-    let mut shelf = FolderShelf::new(&rt);
-    shelf.put("desij-shelf.tmp", b"put\n")?;
-    let read = fs::read(&rt, "desij-shelf.tmp")?;
-    fs::remove_file(&rt, "desij-shelf.tmp")?;
-    assert_eq!(rt; read.as_slice(), b"put\n".as_slice());
-    assert!(rt; shelf.put("no/such/folder", b"put\n").is_err());
-    Ok(())
+fn puts_logs_beside_the_parts(rt: HostRuntime) -> Result<(), Fail> {
+    assert_given(&rt, rt.alloc(), options::LOGS)
 }
 
 #[test]
-fn reads_a_file_of_the_folder(rt: HostRuntime) -> Result<(), Fail> {
-    fs::write(&rt, "desij-source.tmp", b"read\n")?;
-    let mut source = FileSource::new(&rt);
-    let mut buf = [0u8; 8];
-    assert_eq!(rt; source.select("desij-source.tmp"), Ok(true));
-    assert_eq!(rt; source.read(&mut buf), Ok(5));
-    assert_eq!(rt; &buf[..5], b"read\n".as_slice());
-    assert_eq!(rt; source.read(&mut buf), Ok(0));
-    fs::remove_file(&rt, "desij-source.tmp")?;
-    assert_eq!(rt; source.select("desij-source.tmp"), Err(Failed));
-
-    // A read that fails isn't taken for the end: a folder can be selected and not be read.
-    assert_eq!(rt; source.select("."), Ok(true));
-    assert_eq!(rt; source.read(&mut buf), Err(Failed));
-    Ok(())
+fn takes_the_groups_of_a_partition(rt: HostRuntime) -> Result<(), Fail> {
+    assert_given(&rt, rt.alloc(), options::PARTITIONS)
 }
 
 #[test]
-fn writes_to_standard_output(rt: HostRuntime) -> Result<(), Fail> {
-    let mut sink = StdSink::new(&rt);
-    assert_eq!(rt; sink.write(b"out\n"), Ok(4));
+fn needs_the_text_of_a_named_partition(rt: HostRuntime) -> Result<(), Fail> {
+    assert_given(&rt, rt.alloc(), options::LACKING)
+}
+
+#[test]
+fn sums_up_the_parts_of_a_pipeline(rt: HostRuntime) -> Result<(), Fail> {
+    assert_given(&rt, rt.alloc(), options::PIPELINES)
+}
+
+// The files and the text of a run over a pipeline of 40 outputs, by so many workers.
+fn run_pipeline(rt: &(impl Threads + Sync), alloc: Global, workers: &str) -> Result<Ran, Fail> {
+    let text = pipeline(alloc, 40)?;
+    let words = ["decompose", "spec.g", "--workers", workers];
+    run_over(rt, alloc, &words, text.as_slice(), (0, 0, 0), 10_000)
+}
+
+#[test]
+fn has_the_same_files_for_each_number_of_workers(rt: HostRuntime) -> Result<(), Fail> {
+    let one = run_pipeline(&rt, rt.alloc(), "1")?;
+    assert_eq!(rt; one.status, Status::Done);
+    assert_eq!(rt; one.shelf.files().len(), 40);
+    let line = b"part 1 own 1 inputs 2 transitions 6 places 8 restored 0\n";
+    assert!(rt; one.sink.bytes().starts_with(line));
+    assert!(rt; one.sink.bytes().ends_with(b"done 40\n"));
+    for workers in ["2", "64"] {
+        let ran = run_pipeline(&rt, rt.alloc(), workers)?;
+        assert_eq!(rt; ran.shelf.files(), one.shelf.files());
+        assert_eq!(rt; ran.sink.bytes(), one.sink.bytes());
+    }
     Ok(())
 }

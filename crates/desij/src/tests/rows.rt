@@ -1,17 +1,22 @@
 //! Runs over one text in memory, each with how it has to end.
 
-use crate::memory_shelf::MemShelf;
-use crate::memory_sink::MemSink;
-use crate::memory_source::MemSource;
+ghost use Rattle.std.specs.Prelude.{◌≢◌, AllPairs, IfOk};
+ghost use Rattle.io_shelf.specs.Entries.{NamedBytes};
+
 use crate::run::run;
 use crate::status::Status;
+use io_shelf::{MemShelf, MemSink, MemSource};
 use std::alloc::Global;
 use std::process::Abort;
 use std::test::Fail;
-use stg_net::{NoMemory, Nums, Seq};
+use std::thread::Threads;
+use stg_net::{NoMemory, Nums, Seq, Text};
 
 /// The words that name the text.
 pub const NAMED: &[&str] = &["decompose", "spec.g"];
+
+/// The words that name a partition besides.
+pub const PARTITIONED: &[&str] = &["decompose", "spec.g", "--partition", "groups"];
 
 /// A run of these words over the one text `spec.g`, and how it has to end.
 pub struct Row {
@@ -48,29 +53,107 @@ fn strings(alloc: Global, all: &[&str]) -> Result<Vec<String>, NoMemory> {
     Ok(strings)
 }
 
-/// Runs these words over the one text `spec.g`, where the calls of these numbers fail.
-pub fn run_over(
+/// A run of these words over these texts, and how it has to end.
+pub struct Given {
+    pub words: &'static [&'static str],
+    /// The text `spec.g` of the source.
+    pub text: &'static [u8],
+    /// Its text `groups`, if it has one.
+    pub partition: Option<&'static [u8]>,
+    /// The numbers of the calls of source, shelf and sink that fail, counted from 1; 0 where none does.
+    pub fails: (u32, u32, u32),
+    pub status: Status,
+    /// The files of the shelf, in the order in which they came.
+    pub files: &'static [(&'static str, &'static [u8])],
+    pub printed: &'static [u8],
+}
+
+// A text of the name `spec.g`, and one of the name `groups`, if there is one.
+fn name_texts(
     alloc: Global,
-    words: &[&str],
     text: &[u8],
-    fails: (u32, u32, u32),
-    room: u32,
-) -> Result<Ran, NoMemory> {
+    partition: Option<&[u8]>,
+) -> Result<Seq<(Text, Text)>, NoMemory>
+    ensures { IfOk result (λ ts. AllPairs (λ (a b : NamedBytes). a.0 ≢ b.0) ts) }
+{
     let mut texts = Seq::new(alloc);
     texts.push((
         Seq::from_slice(alloc, b"spec.g")?,
         Seq::from_slice(alloc, text)?,
     ))?;
+    if let Some(partition) = partition {
+        texts.push((
+            Seq::from_slice(alloc, b"groups")?,
+            Seq::from_slice(alloc, partition)?,
+        ))?;
+    }
+    Ok(texts)
+}
+
+/// Runs these words over these texts, where the calls of these numbers fail.
+pub fn run_with(
+    rt: &(impl Threads + Sync),
+    alloc: Global,
+    words: &[&str],
+    texts: (&[u8], Option<&[u8]>),
+    fails: (u32, u32, u32),
+    room: u32,
+) -> Result<Ran, Fail> {
+    let texts = name_texts(alloc, texts.0, texts.1)?;
     let mut source = MemSource::new(texts, 100, nums(alloc, fails.0)?);
     let mut shelf = MemShelf::new(alloc, nums(alloc, fails.1)?);
     let mut sink = MemSink::new(alloc, room, nums(alloc, fails.2)?)?;
     let words = strings(alloc, words)?;
-    let status = run(alloc, words.as_slice(), &mut source, &mut shelf, &mut sink);
+    let status = run(
+        rt,
+        alloc,
+        words.as_slice(),
+        &mut source,
+        &mut shelf,
+        &mut sink,
+    );
     Ok(Ran {
         status,
         shelf,
         sink,
     })
+}
+
+/// Runs these words over the one text `spec.g`, where the calls of these numbers fail.
+pub fn run_over(
+    rt: &(impl Threads + Sync),
+    alloc: Global,
+    words: &[&str],
+    text: &[u8],
+    fails: (u32, u32, u32),
+    room: u32,
+) -> Result<Ran, Fail> {
+    run_with(rt, alloc, words, (text, None), fails, room)
+}
+
+// The files of a run's shelf are these.
+fn assert_files(rt: &impl Abort, row: usize, ran: &Ran, wanted: &[(&str, &[u8])]) {
+    assert_eq!(rt; ran.shelf.files().len(), wanted.len(), "row {row}");
+    for (file, wanted) in ran.shelf.files().iter().zip(wanted) {
+        assert_eq!(rt; file.0.as_slice(), wanted.0.as_bytes(), "row {row}");
+        assert_eq!(rt; file.1.as_slice(), wanted.1, "row {row}");
+    }
+}
+
+/// Each of these runs ends as it says.
+pub fn assert_given(
+    rt: &(impl Abort + Threads + Sync),
+    alloc: Global,
+    rows: &[Given],
+) -> Result<(), Fail> {
+    for (row, wanted) in rows.iter().enumerate() {
+        let texts = (wanted.text, wanted.partition);
+        let ran = run_with(rt, alloc, wanted.words, texts, wanted.fails, 1000)?;
+        assert_eq!(rt; ran.status, wanted.status, "row {row}");
+        assert_eq!(rt; ran.sink.bytes(), wanted.printed, "row {row}");
+        assert_files(rt, row, &ran, wanted.files);
+    }
+    Ok(())
 }
 
 // The first files that a run put have these bytes, and the first of them is `part1.g`.
@@ -93,9 +176,20 @@ fn assert_row(rt: &impl Abort, row: usize, ran: &Ran, wanted: &Row) {
 }
 
 /// Each row's run ends as it says.
-pub fn assert_rows(rt: &impl Abort, alloc: Global, rows: &[Row]) -> Result<(), Fail> {
+pub fn assert_rows(
+    rt: &(impl Abort + Threads + Sync),
+    alloc: Global,
+    rows: &[Row],
+) -> Result<(), Fail> {
     for (row, wanted) in rows.iter().enumerate() {
-        let ran = run_over(alloc, wanted.words, wanted.text, wanted.fails, wanted.room)?;
+        let ran = run_over(
+            rt,
+            alloc,
+            wanted.words,
+            wanted.text,
+            wanted.fails,
+            wanted.room,
+        )?;
         assert_row(rt, row, &ran, wanted);
     }
     Ok(())

@@ -48,7 +48,9 @@ macro_rules! other_words {
             status: Status::BadWords,
             files: 0,
             parts: &[],
-            printed: b"usage: desij decompose SPEC\n",
+            printed: b"usage: desij decompose SPEC [--workers N] [--partition FILE] [--steps]
+       desij measure N [--workers N]
+",
         }
     };
 }
@@ -88,7 +90,7 @@ macro_rules! cut_off {
 // The one line of a part with one own signal, one input, two transitions and a place.
 const ONE_PART: &[u8] = b"part 1 own 1 inputs 1 transitions 2 places 1 restored 0\ndone 1\n";
 
-const TWO: &[u8] = b".inputs r1 r2
+pub const TWO: &[u8] = b".inputs r1 r2
 .outputs a1 a2
 .graph
 r1+ a1+
@@ -104,7 +106,7 @@ a2- r2+
 ";
 
 // The net of the first part of `TWO`: the other handshake is hidden, and all of it goes.
-const TWO_PART: &[u8] = b".model part1
+pub const TWO_PART: &[u8] = b".model part1
 .inputs r1
 .outputs a1
 .graph
@@ -182,8 +184,11 @@ pub const OTHER_WORDS: &[Row] = &[
     other_words!(&["decompose", ""]),
     other_words!(&["decompose", "-spec.g"]),
     other_words!(&["decompose", "spec.g", "spec.g"]),
-    other_words!(&["decompose", "spec.g", "--steps"]),
+    other_words!(&["decompose", "spec.g", "--steps", "--steps"]),
+    other_words!(&["decompose", "spec.g", "--workers", "0"]),
+    other_words!(&["decompose", "--", "spec.g"]),
     other_words!(&["measure", "spec.g"]),
+    other_words!(&["measure", "249"]),
     other_words!(&["spec.g", "decompose"]),
 ];
 
