@@ -58,7 +58,7 @@ pub fn touch_all(mut editor: Editor) -> Result<Touched, NoMemory>
 }
 
 /// Whether t is live and its signal isn't known.
-fn is_dummy(editor: &Editor, t: u32) -> bool
+pub fn is_dummy(editor: &Editor, t: u32) -> bool
     ensures { IsTrue result ↔ IsDummy editor.now.now t }
 {
     editor.is_trans(t) && editor.is_dummy(t)
