@@ -3,10 +3,11 @@ use Rattle.std.proofs.Common.{◌≡◌, ℕ, zero, suc, ◌<◌, ◌≤◌, Lis
 use Rattle.stg_crew.specs.declared.worker.Drawn.{Drawn}
 use Rattle.stg_crew.specs.declared.kind.SeatKind.TheVariants.{Collecting, Worker}
 use Rattle.stg_crew.specs.declared.view.SeatView.{SeatView}
-use Rattle.stg_crew.specs.Claims.{view, spent, times, HasEachBelow, IsOfKind, AreClaims}
+use Rattle.stg_crew.specs.Claims.{view, collecting, worker, spent, times, HasEachBelow, AreGroups, IsOfKind, AreClaims}
 use Rattle.stg_crew.specs.Drawing.{HasDrawn}
 use Rattle.stg_crew.specs.Parts.{no_part}
 use Rattle.stg_crew.proofs.EachBelow.{only_other}
+use Rattle.stg_crew.proofs.KeptRule.{start_has_rule, set_keeps_rule, split_keeps_rule, draw_keeps_rule, join_keeps_rule}
 
 -- Two groups and two workers. One has drawn 0 and then 2, which is past the groups, and was taken
 -- in; the other has drawn 1.
@@ -59,3 +60,27 @@ alone = record { are_groups = below; last = 2; past = omega arith; list_is = ref
     below zero d h = omega arith
     below (suc zero) d h = omega arith
     below (suc (suc k)) d h = absurd (omega (arith, h))
+
+-- ---- one group and one worker, from the start on: its seat is split off, draws twice and is taken in
+
+abbrev split_one : SeatView
+split_one = view Collecting [] 1 0 1
+
+first_group : AreGroups 1 (0 ∷ [])
+first_group zero d h = omega arith
+first_group (suc k) d h = absurd (omega (arith, h))
+
+after_set : AreClaims 0 1 (collecting 1 ∷ [])
+after_set = set_keeps_rule 0 0 1 (collecting 0 ∷ []) 0 (collecting 0) start_has_rule refl refl refl refl refl (omega arith)
+
+after_split : AreClaims 0 1 (split_one ∷ worker 1 ∷ [])
+after_split = split_keeps_rule 0 1 (collecting 1 ∷ []) 0 (collecting 1) after_set refl refl (omega arith)
+
+after_draw : AreClaims 1 1 (split_one ∷ view Worker (0 ∷ []) 0 0 1 ∷ [])
+after_draw = draw_keeps_rule 0 1 (split_one ∷ worker 1 ∷ []) 1 (worker 1) after_split refl refl (λ k d h. absurd (omega (arith, h)))
+
+after_last : AreClaims 2 1 (split_one ∷ view Worker (0 ∷ 1 ∷ []) 0 0 1 ∷ [])
+after_last = draw_keeps_rule 1 1 (split_one ∷ view Worker (0 ∷ []) 0 0 1 ∷ []) 1 (view Worker (0 ∷ []) 0 0 1) after_draw refl refl first_group
+
+after_join : AreClaims 2 1 (view Collecting (0 ∷ 1 ∷ []) 1 1 1 ∷ spent ∷ [])
+after_join = join_keeps_rule 2 1 (split_one ∷ view Worker (0 ∷ 1 ∷ []) 0 0 1 ∷ []) 0 1 split_one (view Worker (0 ∷ 1 ∷ []) 0 0 1) after_last refl refl refl refl

@@ -2,6 +2,7 @@ pub mod Sums
 pub mod EachBelow
 pub mod Summed
 pub mod Steps
+pub mod KeptRule
 pub mod Tables
 pub mod Drawings
 pub mod Placing

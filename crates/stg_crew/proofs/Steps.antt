@@ -52,7 +52,7 @@ module _ (draws groups : ℕ) (views : List SeatView) (h : AreSummed draws group
   few_draws = omega (arith, below-past groups draws, h.once (past groups), few_past, h.most)
 
   module _ (id : ℕ) (v : SeatView) (here : get_elem? views id ≡ some v) where
-    fits : (k : SeatKind) → v.kind ≡ k → FitsAs k groups v
+    pub fits : (k : SeatKind) → v.kind ≡ k → FitsAs k groups v
     fits k e = subst (λ k. FitsAs k groups v) e (h.fit id v here)
 
     -- the numbers of a list were drawn

@@ -32,7 +32,7 @@ total f (x ∷ xs) = f x + total f xs
 abbrev pub times : ℕ → List ℕ → ℕ
 times k list = total (λ (x : ℕ). cond (x == k) 1 0) list
 
--- how many numbers of the list are past the groups, that is, that of none of them
+-- how many numbers of the list are past the groups, that is, the number of none of them
 abbrev pub count_past : ℕ → List ℕ → ℕ
 count_past groups list = total (λ (x : ℕ). cond (nat_le groups x) 1 0) list
 
@@ -75,8 +75,8 @@ pub record IsDrawn (groups : ℕ) (list : List ℕ) : Type 0 where
   pub ascends : AllPairs (λ a b. a < b) list
   pub before_last : (i : ℕ) → i + 1 < length list → slice_index list i < groups
 
--- a collecting view: of its list, no more numbers are past the groups than seats were taken in; as
--- many seats as are workers' were split off and not taken in
+-- a collecting view: of its list, no more numbers are past the groups than seats were taken in; at
+-- most 64 seats were split off, of which as many as are workers' weren't taken in
 pub record IsCollecting (groups workers : ℕ) (v : SeatView) : Type 0 where
   pub few_past : count_past groups v.list ≤ v.joined
   pub split_is : v.split ≡ v.joined + workers

@@ -40,7 +40,7 @@ pub fn claims_for(alloc: Global, groups: u32) -> Result<ClaimStart, NoMemory>
     ensures view { IfOk result (λ start. view_of start.seat ≡ collecting groups) }
 {
     let (table, mut seat) = Table::of_words(alloc, &[0, 0], &())?;
-    let _none = table
+    let _before = table
         .shared
         .fetch_add::<SetGroups>(&mut seat, 1, u64::from(groups));
     Ok(ClaimStart {
@@ -49,7 +49,7 @@ pub fn claims_for(alloc: Global, groups: u32) -> Result<ClaimStart, NoMemory>
     })
 }
 
-/// Splits a worker's seat off the collecting one, of which at most 64 are split off.
+/// Splits a worker's seat off the collecting one, off which at most 64 are split.
 pub fn split_claims(claims: &Claims, seat: &mut ClaimSeat) -> ClaimSeat
     requires of { IsOf seat.old claims.now }
     requires collecting { (view_of seat.old).kind ≡ Collecting }

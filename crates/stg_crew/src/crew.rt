@@ -92,7 +92,8 @@ fn send<G: Gate>(
     worker.drawn = draw_all(alloc, spec, groups, claims, &mut worker.seat, gate);
 }
 
-/// Sends all workers of a slice, each in a thread of its own, and ends when all have ended.
+/// Sends all workers of a slice, each in a thread of its own, where the system has one for it, and
+/// ends when all have ended.
 fn send_slice<R: Threads + Sync, G: Gate>(
     rt: &R,
     alloc: Global,
@@ -123,7 +124,8 @@ fn send_slice<R: Threads + Sync, G: Gate>(
     );
 }
 
-/// Sends all workers, each in a thread of its own, and ends when all have ended.
+/// Sends all workers, each in a thread of its own, where the system has one for it, and ends when
+/// all have ended.
 fn send_all<R: Threads + Sync, G: Gate>(
     rt: &R,
     alloc: Global,

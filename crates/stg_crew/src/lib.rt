@@ -6,6 +6,7 @@ mod claims;
 mod crew;
 mod gate;
 mod kind;
+mod laws;
 mod rule;
 mod slots;
 mod table;
@@ -18,6 +19,7 @@ pub use claims::{ClaimStart, Draws, claims_for, close_claims, draw, join_claims,
 pub use crew::{Worked, work};
 pub use gate::{Gate, OpenGate};
 pub use kind::SeatKind;
+pub use laws::law_claims;
 pub use table::{ClaimSeat, Claims};
 pub use view::SeatView;
 pub use worker::{Drawn, draw_all};
