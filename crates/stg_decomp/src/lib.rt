@@ -5,6 +5,8 @@ mod error;
 mod part;
 mod parts;
 mod settle;
+#[cfg(test)]
+mod tests;
 mod text;
 
 pub use error::DecompError;
