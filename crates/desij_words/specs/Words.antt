@@ -16,7 +16,7 @@ pub data Command : Type 0 where
   -- to decompose the specification in the file of that name, by that many workers, into the
   -- groups of a partition's file or the plain ones, with logs of the steps or without
   Decompose : (spec : Text) (workers : ℕ) (partition : Option Text) (steps : Bool) → Command
-  -- to decompose the pipeline of that many stages, by that many workers
+  -- to decompose the pipeline of that many outputs, by that many workers
   Measure : (count workers : ℕ) → Command
 
 -- ---- values
@@ -96,11 +96,13 @@ at_word (Gives argument value) rest = option_map (λ gs. (argument, value) ∷ g
 at_word (Asks argument) rest = rest (Some argument)
 at_word Unknown rest = None
 
--- what the words give, in their order; where an argument has asked for it, the first word is its value
+-- what the words give, in their order; where an argument has asked for it, the first word is its
+-- value
 abbrev pub given_in : List Text → Option Argument → Option (List Given)
 given_in [] None = Some []
 given_in [] (Some argument) = None
-given_in (word ∷ words) (Some argument) = option_map (λ gs. (argument, word) ∷ gs) (given_in words None)
+given_in (word ∷ words) (Some argument) =
+    option_map (λ gs. (argument, word) ∷ gs) (given_in words None)
 given_in (word ∷ words) None = at_word (word_kind word) (given_in words)
 
 -- whether the arguments are the same
@@ -123,7 +125,7 @@ spec_from [] = None
 spec_from (word ∷ []) = as_file word
 spec_from (word ∷ other ∷ more) = None
 
--- how many stages the pipeline has: just one number
+-- how many outputs the pipeline has: just one number
 abbrev pub count_from : List Text → Option ℕ
 count_from [] = None
 count_from (word ∷ []) = number_up_to 248 word

@@ -19,7 +19,7 @@ use form::{Action, action_of};
 pub use matches::{decompose_matches, measure_matches};
 use std::alloc::Global;
 use stg_net::NoMemory;
-use word::{MOST_STAGES, MOST_WORKERS, number};
+use word::{MOST_OUTPUTS, MOST_WORKERS, number};
 
 /// What is printed where the words aren't of the form.
 pub const USAGE: &[u8] = b"\
@@ -41,9 +41,9 @@ pub enum Command<'a> {
         /// Whether the steps are logged.
         steps: bool,
     },
-    /// To decompose the pipeline of `count` stages.
+    /// To decompose the pipeline of `count` outputs.
     Measure {
-        /// How many stages the pipeline has, 1 to 248.
+        /// How many outputs the pipeline has, 1 to 248.
         count: u32,
         /// How many workers share the groups, 1 to 64.
         workers: u32,
@@ -97,7 +97,7 @@ fn measure_command<'a>(matches: &ArgMatches<'a>) -> Option<Command<'a>>
         → option_map command_told result ≡ Some command }
 {
     Some(Command::Measure {
-        count: number(matches.get_str("count")?, MOST_STAGES)?,
+        count: number(matches.get_str("count")?, MOST_OUTPUTS)?,
         workers: workers(matches)?,
     })
 }

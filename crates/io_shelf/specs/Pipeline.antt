@@ -15,8 +15,8 @@ unfoldable pub arc_line : ℕ → ℕ → ℕ → ℕ → List ℕ
 arc_line i from j to = edge_word i from ++ 32 ∷ edge_word j to ++ 10 ∷ []
 
 -- the handshake of the i-th signal with the next: both rise (43), then both fall (45)
-unfoldable pub stage_lines : ℕ → List ℕ
-stage_lines i =
+unfoldable pub handshake_lines : ℕ → List ℕ
+handshake_lines i =
     arc_line i 43 (i + 1) 43
     ++ arc_line (i + 1) 43 i 45
     ++ arc_line i 45 (i + 1) 45
@@ -26,7 +26,7 @@ stage_lines i =
 unfoldable pub output_word : ℕ → List ℕ
 output_word i = 32 ∷ name_word (i + 1)
 
--- the marked place of that handshake, after a space: its signals may rise first
+-- the entry of the marked place of the i-th handshake, after a space
 unfoldable pub token_word : ℕ → List ℕ
 token_word i = codes " <" ++ edge_word (i + 1) 45 ++ 44 ∷ edge_word i 43 ++ 62 ∷ []
 
@@ -47,4 +47,4 @@ tail_lines n =
 -- the text of a pipeline of n outputs
 abbrev pub pipeline_text : ℕ → List ℕ
 pipeline_text n =
-    head_lines n ++ listed_below stage_lines (n + 1) ++ tail_lines n
+    head_lines n ++ listed_below handshake_lines (n + 1) ++ tail_lines n

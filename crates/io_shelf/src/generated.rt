@@ -2,7 +2,7 @@
 
 ghost use Rattle.std.specs.Prelude.{◌≡◌, ◌+◌, ◌<◌, ◌≤◌, ◌^◌, ◌++◌, IfOk, OnOk};
 ghost use Rattle.stg_net.specs.Ordered.{listed_below};
-ghost use Rattle.io_shelf.specs.Pipeline.{arc_line, edge_word, token_word, head_lines, name_word, output_word, pipeline_text, stage_lines, tail_lines};
+ghost use Rattle.io_shelf.specs.Pipeline.{arc_line, edge_word, token_word, head_lines, name_word, output_word, pipeline_text, handshake_lines, tail_lines};
 
 use itoa::Buffer;
 use std::alloc::Global;
@@ -40,10 +40,10 @@ fn push_arc(text: &mut Text, i: u32, from: u8, j: u32, to: u8) -> Result<(), NoM
 }
 
 // The handshake of one signal with the next.
-#[tactic(auto, unfolding(crate::specs::Pipeline::stage_lines))]
-fn push_stage(text: &mut Text, i: u32) -> Result<(), NoMemory>
+#[tactic(auto, unfolding(crate::specs::Pipeline::handshake_lines))]
+fn push_handshake(text: &mut Text, i: u32) -> Result<(), NoMemory>
     requires { i + 1 < 2 ^ 32 }
-    ensures { OnOk result (text.new ≡ text.old ++ stage_lines i) }
+    ensures { OnOk result (text.new ≡ text.old ++ handshake_lines i) }
 {
     push_arc(text, i, RISE, i + 1, RISE)?;
     push_arc(text, i + 1, RISE, i, FALL)?;
@@ -60,7 +60,7 @@ fn push_output(text: &mut Text, i: u32) -> Result<(), NoMemory>
     push_name(text, i + 1)
 }
 
-// The token between the stages i and i + 1.
+// The token of the handshake of the signals i and i + 1.
 #[tactic(auto, unfolding(crate::specs::Pipeline::token_word))]
 fn push_entry(text: &mut Text, i: u32) -> Result<(), NoMemory>
     requires { i + 1 < 2 ^ 32 }
@@ -83,12 +83,12 @@ fn push_outputs(text: &mut Text, n: u32) -> Result<(), NoMemory>
     Ok(())
 }
 
-fn push_stages(text: &mut Text, count: u32) -> Result<(), NoMemory>
+fn push_handshakes(text: &mut Text, count: u32) -> Result<(), NoMemory>
     requires { count + 1 < 2 ^ 32 }
-    ensures { OnOk result (text.new ≡ text.old ++ listed_below stage_lines count) }
+    ensures { OnOk result (text.new ≡ text.old ++ listed_below handshake_lines count) }
 {
     for i in 0..count {
-        push_stage(text, i)?;
+        push_handshake(text, i)?;
     }
     Ok(())
 }
@@ -134,7 +134,7 @@ pub fn pipeline(alloc: Global, n: u32) -> Result<Text, NoMemory>
 {
     let mut text = Seq::new(alloc);
     push_head(&mut text, n)?;
-    push_stages(&mut text, n + 1)?;
+    push_handshakes(&mut text, n + 1)?;
     push_tail(&mut text, n)?;
     Ok(text)
 }

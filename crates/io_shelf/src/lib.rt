@@ -1,5 +1,5 @@
-//! The outside of the program: texts that are read, files that are put, bytes that are written, each
-//! with a form in memory and a real one; and specifications of any size, to measure with.
+//! The outside of the program: texts that are read, files that are put, bytes that are written,
+//! each with a form in memory and a real one; and specifications of any size, to measure with.
 #![tactic(auto)]
 
 mod calls;

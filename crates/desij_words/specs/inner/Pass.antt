@@ -41,7 +41,8 @@ with_argument met Steps = record met { steps = true }
 -- one more value, where the argument has none
 abbrev pub met_with : Action → Met → Argument → Text → Option Met
 met_with what met argument value =
-    if has met argument || not (allows what argument value) then None else Some (with_argument met argument)
+    if has met argument || not (allows what argument value) then None
+    else Some (with_argument met argument)
 
 -- what has its value, and what asked for the next word
 abbrev pub PassPoint : Type 0
@@ -60,7 +61,8 @@ point_at what met Unknown = None
 -- the place after one more word, where it may follow
 abbrev pub point_after : Action → PassPoint → Text → Option PassPoint
 point_after what place word =
-    point_at what place.0 (option_map_or (λ (argument : Argument). Gives argument word) place.1 (word_kind word))
+    point_at what place.0
+    (option_map_or (λ (argument : Argument). Gives argument word) place.1 (word_kind word))
 
 -- whether the words may end there
 abbrev pub is_end : PassPoint → Bool

@@ -7,7 +7,7 @@ ghost use Rattle.desij_words.specs.inner.Pass.{action_in, allows, may_follow, me
 ghost use Rattle.desij_words.specs.inner.Pass.{nothing_met, point_after, point_of};
 
 use crate::words::word::{
-    Argument, MOST_STAGES, MOST_WORKERS, WordKind, is_file, number, read_word,
+    Argument, MOST_OUTPUTS, MOST_WORKERS, WordKind, is_file, number, read_word,
 };
 
 /// The first word.
@@ -24,7 +24,7 @@ impl Action {
     {
         match (self, argument) {
             (_, Argument::Workers) => number(value, MOST_WORKERS).is_some(),
-            (Action::Measure, Argument::Positional) => number(value, MOST_STAGES).is_some(),
+            (Action::Measure, Argument::Positional) => number(value, MOST_OUTPUTS).is_some(),
             (Action::Measure, _) => false,
             (Action::Decompose, Argument::Steps) => true,
             (Action::Decompose, _) => is_file(value),

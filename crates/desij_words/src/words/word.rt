@@ -10,8 +10,8 @@ ghost use Rattle.desij_words.specs.inner.Told.{word_told};
 /// The most workers that may share the groups.
 pub const MOST_WORKERS: u32 = 64;
 
-/// The most stages that a pipeline may have.
-pub const MOST_STAGES: u32 = 248;
+/// The most outputs that a pipeline may have.
+pub const MOST_OUTPUTS: u32 = 248;
 
 /// What has a value: the place of a word that is no option's, or an option.
 #[derive(Clone, Copy)]
