@@ -1,11 +1,14 @@
 -- The words and the answer of worked texts, computed.
-use Rattle.std.proofs.Common.{◌≡◌, ℕ, List, [], ◌∷◌, ◌++◌, Option, None, Some, Result, Ok, Err, false, refl, codes}
+use Rattle.std.proofs.Common.{◌≡◌, ℕ, List, [], ◌∷◌, ◌++◌, Option, None, Some, Result, Ok, Err, false, refl, codes, map}
 use Rattle.std.specs.Fmt.{digits}
 use Rattle.std.specs.Option.{option_map}
 use Rattle.astg_write.specs.ComponentText.{component_text}
 use Rattle.stg_net.specs.declared.limits.TheConstants.Limits.{SPEC}
 use Rattle.astg_read.specs.declared.rule.Rule.TheVariants.{NoGraph}
 use Rattle.astg_read.specs.Reading.{Meaning, Fault, reading}
+use Rattle.stg_partition.specs.declared.error.GroupError.TheVariants as group_error
+use Rattle.stg_partition.specs.ErrorNumbers.{group_error_number}
+use Rattle.stg_partition.specs.PartitionText.{most_bytes}
 use Rattle.stg_derive.specs.declared.part.Part.{Part}
 use Rattle.stg_crew.specs.Parts.{no_part}
 use Rattle.stg_decomp.specs.Settled.{settled}
@@ -70,3 +73,11 @@ first_name = refl
 -- no bytes stand for no specification
 no_lines : reading false SPEC [] ≡ Err (record { rule = NoGraph; line = 1 })
 no_lines = refl
+
+-- the errors of a partition are numbered
+group_errors : map group_error_number (group_error.BadLine 0 ∷ group_error.UnknownOutput 0 ∷ group_error.OutputTwice 0 ∷ group_error.OutputMissing 0 ∷ group_error.SplitConflict 0 0 0 ∷ group_error.NoMemory ∷ []) ≡ 1 ∷ 2 ∷ 3 ∷ 4 ∷ 5 ∷ 6 ∷ []
+group_errors = refl
+
+-- a partition has at most as many bytes as a specification
+partition_bytes : most_bytes ≡ 1048576
+partition_bytes = refl

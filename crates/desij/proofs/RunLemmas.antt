@@ -167,7 +167,7 @@ completes (Some c) Done old new ends quiet tells = inl refl
 completes (Some c) NoMemory old new ends quiet tells = inr refl
 completes (Some c) BadWords old new ends quiet tells = let e = ends.no_form in cc
 completes (Some (Decompose spec workers partition steps)) Refused old new ends quiet tells = absurd (not_refused (inputs spec partition) ends.line old.source new.source tells ends.source)
-completes (Some (Decompose spec workers partition steps)) ReadFault old new ends quiet tells = absurd (elim ends.source [ inl rose ↦ quiet.source rose | inr lacks ↦ not_lacking (inputs spec partition) old.source tells lacks ])
+completes (Some (Decompose spec workers partition steps)) ReadFault old new ends quiet tells = absurd (elim ends.source [ inl fails ↦ quiet.source fails.rose | inr lacks ↦ not_lacking (inputs spec partition) old.source tells lacks ])
 completes (Some (Decompose spec workers partition steps)) WriteFault old new ends quiet tells = absurd (quiet.shelf ends.shelf.rose)
 completes (Some (Decompose spec workers partition steps)) PrintFault old new ends quiet tells = absurd (elim ends [ inl refusal ↦ quiet.sink refusal.sink.rose | inr lines ↦ quiet.sink lines.sink.rose ])
 completes (Some (Measure n workers)) Refused old new ends quiet tells = absurd (not_both (pipeline_text n) ends.line tells ends.refused)
@@ -234,7 +234,7 @@ refuses (Some c) Refused old new ends quiet tells = inl refl
 refuses (Some c) NoMemory old new ends quiet tells = inr refl
 refuses (Some c) BadWords old new ends quiet tells = let e = ends.no_form in cc
 refuses (Some (Decompose spec workers partition steps)) Done old new ends quiet tells = absurd (not_accepted (inputs spec partition) ends.spec ends.parts old.source new.source tells ends.source)
-refuses (Some (Decompose spec workers partition steps)) ReadFault old new ends quiet tells = absurd (elim ends.source [ inl rose ↦ quiet.source rose | inr lacks ↦ refused_there (inputs spec partition) old.source tells lacks ])
+refuses (Some (Decompose spec workers partition steps)) ReadFault old new ends quiet tells = absurd (elim ends.source [ inl fails ↦ quiet.source fails.rose | inr lacks ↦ refused_there (inputs spec partition) old.source tells lacks ])
 refuses (Some (Decompose spec workers partition steps)) WriteFault old new ends quiet tells = absurd (quiet.shelf ends.shelf.rose)
 refuses (Some (Decompose spec workers partition steps)) PrintFault old new ends quiet tells = absurd (elim ends [ inl refusal ↦ quiet.sink refusal.sink.rose | inr lines ↦ quiet.sink lines.sink.rose ])
 refuses (Some (Measure n workers)) Done old new ends quiet tells = absurd (not_both (pipeline_text n) tells.line (acceptable (pipeline_text n) ends.spec ends.answer.accepts) tells.refused)

@@ -45,7 +45,7 @@ rose_later a b c later rose = omega (arith, later, rose)
 
 -- without a specification there are no parts
 pub untaken_unmade : (name : List ℕ) (file : Option (List ℕ)) (e : Unmade) (old new : SeenSource) → IsUntaken name e old new → new.selects ≡ old.selects + 1 → IsUnmade (inputs name file) e old new
-untaken_unmade name file unmade.Unread old new why selects = elim why [ inl rose ↦ inl rose | inr missing ↦ inr (inl missing) ]
+untaken_unmade name file unmade.Unread old new why selects = elim why [ inl rose ↦ inl (record { rose = rose; turn = inl selects }) | inr missing ↦ inr (inl missing) ]
 untaken_unmade name file (unmade.Refused line) old new why selects = inl (record { text = why.0; read = why.1.0; selects = selects; refused = why.1.1 })
 untaken_unmade name file unmade.NoMemory old new why selects = why
 
@@ -57,14 +57,14 @@ missing_before file old mid kept missing = record {
 
 -- without its partition there are no parts
 pub unread_unmade : (name : List ℕ) (file : Option (List ℕ)) (e : Unmade) (spec : SpecLists) (old mid new : SeenSource) → TakesSpec name spec old mid → old.faults ≤ mid.faults → mid.texts ≡ old.texts
-    → IsPartitionUnread file e mid new → IsUnmade (inputs name file) e old new
-unread_unmade name None e spec old mid new taken later kept why = absurd why
-unread_unmade name (Some file) unmade.Unread spec old mid new taken later kept why = elim why [
-  | inl rose ↦ inl (rose_later old.faults mid.faults new.faults later rose)
+    → mid.selects ≡ old.selects + 1 → new.selects ≡ mid.selects + partition_count file → IsPartitionUnread file e mid new → IsUnmade (inputs name file) e old new
+unread_unmade name None e spec old mid new taken later kept one more why = absurd why
+unread_unmade name (Some file) unmade.Unread spec old mid new taken later kept one more why = elim why [
+  | inl rose ↦ inl (record { rose = rose_later old.faults mid.faults new.faults later rose; turn = inr (record { text = taken.text; has_text = taken.has_text; spec = spec; accepts = taken.accepts; selects = omega (arith, one, more) }) })
   | inr missing ↦ (let before = missing_before file old mid kept missing in inr (inr (record { accepted = tells_acceptable name spec old mid taken before.told; missing = before })))
 ]
-unread_unmade name (Some file) (unmade.Refused line) spec old mid new taken later kept why = absurd why
-unread_unmade name (Some file) unmade.NoMemory spec old mid new taken later kept why = why
+unread_unmade name (Some file) (unmade.Refused line) spec old mid new taken later kept one more why = absurd why
+unread_unmade name (Some file) unmade.NoMemory spec old mid new taken later kept one more why = why
 
 read_before : (most : ℕ) (file text : List ℕ) (old mid new : SeenSource) → mid.texts ≡ old.texts → ReadsUpTo most file text mid new → ReadsUpTo most file text old new
 read_before most file text old mid new kept read = record {

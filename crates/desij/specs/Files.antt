@@ -67,8 +67,8 @@ pub record PutsFirst (files : List NamedBytes) (old new : SeenShelf) : Type 0 wh
   pub are : files ≡ first ++ others
   pub put : PutsAll first old new
 
--- A put failed: the files before it are set, nothing is told of its own, and no other file has
--- changed.
+-- The count of the shelf's faults rose in a put: the files before its own are set, nothing is told
+-- of its own, and no other file has changed.
 pub record PutsUpTo (files : List NamedBytes) (old new : SeenShelf) : Type 0 where
   pub first : List NamedBytes
   pub failed : NamedBytes

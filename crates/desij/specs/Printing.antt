@@ -85,17 +85,19 @@ group_refusal spec (group_error.SplitConflict x y place) =
     ++ 10 ∷ []
 group_refusal spec group_error.NoMemory = []
 
--- how many transitions, places and restored signals the parts have together
+-- how many transitions the parts have together
 abbrev pub all_trans : List Part → ℕ
 all_trans parts = sum_by (λ (p : Part). length p.net.trans) parts
 
+-- how many places
 abbrev pub all_places : List Part → ℕ
 all_places parts = sum_by (λ (p : Part). length p.net.tokens) parts
 
+-- how many restored signals
 abbrev pub all_restored : List Part → ℕ
 all_restored parts = sum_by (λ (p : Part). length p.restored) parts
 
--- the line that tells what the parts of a generated specification sum to
+-- the line that tells what the parts of a pipeline sum to
 unfoldable pub measure_line : ℕ → List Part → List ℕ
 measure_line n parts =
     count_text (codes "measure ") n

@@ -12,6 +12,7 @@ pub record Inputs : Type 0 where
   pub spec : List ℕ
   pub partition : Option (List ℕ)
 
+-- of these names
 abbrev pub inputs : List ℕ → Option (List ℕ) → Inputs
 inputs spec partition = record { spec = spec; partition = partition }
 
@@ -38,16 +39,17 @@ pub record ReadsUpTo (most : ℕ) (name text : List ℕ) (old new : SeenSource) 
   pub at_most : length text ≤ most
   pub rest : length text < most → IsAtEnd new.left
 
--- how many files these are: one, and the partition's if one is named
+-- how many files are named: one, and the partition's if there is one
 abbrev pub count_files : Option (List ℕ) → ℕ
 count_files None = 1
 count_files (Some file) = 2
 
+-- so many are named
 abbrev pub named_files : Inputs → ℕ
 named_files d = count_files d.partition
 
--- Each text that the words name was read whole, and nothing is left of the last one. The text stands
--- for this specification, and these are its parts.
+-- Each text that the words name was read whole, and nothing is left of the last one. The text
+-- stands for this specification, and these are its parts.
 pub record IsAccepted (d : Inputs) (spec : SpecLists) (parts : List Part)
     (old new : SeenSource) : Type 0 where
   pub text : List ℕ
@@ -99,6 +101,20 @@ pub record LacksPartition (d : Inputs) (source : SeenSource) : Type 0 where
 abbrev pub LacksText : Inputs → SeenSource → Type 0
 LacksText d source = IsMissing d.spec source ⊎ LacksPartition d source
 
--- a call of the source failed, or it lacks a text that is to be read
+-- the text of the specification was read whole and is accepted, and one more text was selected
+pub record HasComeToPartition (d : Inputs) (old new : SeenSource) : Type 0 where
+  pub text : List ℕ
+  pub has_text : HasText d.spec text old
+  pub spec : SpecLists
+  pub accepts : Accepts text spec
+  pub selects : new.selects ≡ old.selects + 2
+
+-- The count of the source's faults rose while the text of the specification was read, or that of
+-- the partition, after the specification was accepted.
+pub record FailsToRead (d : Inputs) (old new : SeenSource) : Type 0 where
+  pub rose : Rose old.faults new.faults
+  pub turn : (new.selects ≡ old.selects + 1) ⊎ HasComeToPartition d old new
+
+-- the source failed, or it lacks a text that is to be read
 abbrev pub IsUnreadable : Inputs → SeenSource → SeenSource → Type 0
-IsUnreadable d old new = Rose old.faults new.faults ⊎ LacksText d old
+IsUnreadable d old new = FailsToRead d old new ⊎ LacksText d old

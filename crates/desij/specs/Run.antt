@@ -22,6 +22,7 @@ pub record Seen : Type 0 where
   pub shelf : SeenShelf
   pub sink : SeenSink
 
+-- of these three
 abbrev pub seen : SeenSource → SeenShelf → SeenSink → Seen
 seen source shelf sink = record { source = source; shelf = shelf; sink = sink }
 
@@ -29,7 +30,7 @@ seen source shelf sink = record { source = source; shelf = shelf; sink = sink }
 abbrev pub Prints : List ℕ → SeenSink → SeenSink → Type 0
 Prints bytes old new = new.written ≡ append_known old.written bytes
 
--- a prefix of these bytes was printed, and then a call of the sink failed
+-- a prefix of these bytes was printed, and the count of the sink's faults rose
 pub record BreaksOff (bytes : List ℕ) (old new : SeenSink) : Type 0 where
   pub prefix : IsPrefixPrinted bytes old.written new.written
   pub rose : Rose old.faults new.faults
@@ -68,8 +69,8 @@ Completes (Decompose spec workers partition steps) old new =
 Completes (Measure n workers) old new = TellsMeasure n old new
 
 -- What WritesParts means, told without parts: the text stands for a specification; the component
--- texts of some nets were put, with a log beside each where logs are wanted, and no other file has
--- changed; these nets share out what the specification drives, each has exactly its traces on the
+-- texts of some nets were put, with a file for its log beside each where logs are wanted, and no
+-- other file has changed; these nets share out what the specification drives, each has exactly its traces on the
 -- net's signals, and together they are a correct decomposition of it, where it is deterministic.
 -- Each net is read back from its file.
 pub record WritesComponents (d : Inputs) (steps : Bool) (old new : Seen) : Type 0 where
@@ -110,7 +111,7 @@ Refuses (Decompose spec workers partition steps) old new =
     RefusesTexts (inputs spec partition) old new
 Refuses (Measure n workers) old new = RefusesPipeline n old new
 
--- a call of the source failed or it lacks a text that is to be read, and nothing was put or printed
+-- a text that is to be read couldn't be, and nothing was put or printed
 pub record ReadsNot (d : Inputs) (old new : Seen) : Type 0 where
   pub source : IsUnreadable d old.source new.source
   pub shelf : new.shelf ≡ old.shelf
@@ -172,7 +173,7 @@ pub record CannotTellUsage (old new : Seen) : Type 0 where
   pub sink : BreaksOff usage old.sink new.sink
 
 -- what was to be printed broke off: the usage, where the words aren't of the form, or else a
--- refusal or the lines
+-- refusal, the lines or the sums
 abbrev pub CannotPrint : Option Command → Seen → Seen → Type 0
 CannotPrint None old new = CannotTellUsage old new
 CannotPrint (Some (Decompose spec workers partition steps)) old new =

@@ -26,7 +26,7 @@ use std::alloc::Global;
 use std::thread::Threads;
 use stg_net::{Limits, NoMemory, Text};
 
-/// Does what the words say. A run that the words don't call for prints the usage.
+/// Does what the words say. Where they aren't of the form, the usage is printed.
 pub fn run<R: Threads + Sync, S: Source, F: Shelf, K: Sink>(
     rt: &R,
     alloc: Global,

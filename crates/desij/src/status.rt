@@ -20,7 +20,7 @@ pub enum Status {
     PrintFault = 6,
     /// Memory ran out.
     NoMemory = 7,
-    /// Never.
+    /// `run` never ends so.
     ServeFault = 8,
 }
 

@@ -60,7 +60,8 @@ abbrev pub Finishes : List NamedBytes → List ℕ → Status → SeenShelf → 
     → SeenSink → Type 0
 Finishes files lines Done old new sink sink' = PutsAll files old new × Prints lines sink sink'
 Finishes files lines WriteFault old new sink sink' = PutsUpTo files old new × (sink' ≡ sink)
-Finishes files lines PrintFault old new sink sink' = PutsAll files old new × BreaksOff lines sink sink'
+Finishes files lines PrintFault old new sink sink' =
+    PutsAll files old new × BreaksOff lines sink sink'
 Finishes files lines NoMemory old new sink sink' = PutsFirst files old new × (sink' ≡ sink)
 Finishes files lines s old new sink sink' = ⊥
 
