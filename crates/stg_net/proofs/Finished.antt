@@ -43,6 +43,10 @@ in_order p q t u v w true false unlike ends = grind (arith, nat_tests)
 in_order p q t u v w false true unlike ends = grind (arith, nat_tests)
 in_order p q t u v w false false unlike ends = grind (arith, nat_tests)
 
+-- an arc before one that is before a third is before the third
+pub before_trans : (x y z : NetArc) → IsBefore x y → IsBefore y z → IsBefore x z
+before_trans x y z p q = grind arith
+
 arcs_in_order : (xs ys : List NetArc) → IsPermutation xs ys → AllPairs (λ a c. HasEnds a c → ⊥) xs → IsSorted arc_cmp ys → AllPairs IsBefore ys
 arcs_in_order xs ys moved ends sorted =
     let still = AllPairs-permutation (λ (a c : NetArc). HasEnds a c → ⊥)
@@ -53,9 +57,6 @@ arcs_in_order xs ys moved ends sorted =
     let c = get_or ys (k + 1) d in
     in_order a.place c.place a.trans c.trans a.weight c.weight a.into c.into (sorted k d (omega arith) below)
     (λ same. still k (k + 1) d (omega arith) below (record { same_place = same.0; same_trans = same.1; same_way = same.2 })))
-  where
-    before_trans : (x y z : NetArc) → IsBefore x y → IsBefore y z → IsBefore x z
-    before_trans x y z p q = grind arith
 
 -- the lists of a builder, with its arcs sorted, are a net
 pub finished : (b : Inside) (signals : List Signal) (arcs : List NetArc) → IsBuilder b → signals ≡ map entry_signal b.signals.entries → IsPermutation b.arcs.items arcs → IsSorted arc_cmp arcs

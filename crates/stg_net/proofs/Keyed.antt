@@ -11,7 +11,8 @@ use Rattle.stg_net.specs.Ordered.{listed_below, numbers_by}
 use Rattle.stg_net.proofs.Buckets.{bucket, low, filter_all, filter_none, numbers_where-filter}
 use Rattle.stg_net.proofs.Orders.{all_below}
 
-tie_test : (a b : ℕ) → (not (is_lt (nat_cmp a b)) && not (is_lt (nat_cmp b a))) ≡ (b == a)
+-- neither number is below the other where they are one
+pub tie_test : (a b : ℕ) → (not (is_lt (nat_cmp a b)) && not (is_lt (nat_cmp b a))) ≡ (b == a)
 tie_test a b = grind (arith, nat_tests)
 
 module _ {X : Type 0} (key : X → ℕ) where

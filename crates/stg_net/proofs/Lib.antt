@@ -15,3 +15,5 @@ pub mod Edges
 pub mod Members
 pub mod Together
 pub mod Keyed
+pub mod Listed
+pub mod NameBytes

@@ -1,5 +1,6 @@
 -- Facts on the elements of a mapped list.
-use Rattle.std.proofs.Common.{◌<◌, List, [], ◌∷◌, length, map, get_or, All, AllPairs, subst, sym, arith}
+use Rattle.std.proofs.Common.{◌≡◌, ◌<◌, ◌||◌, Bool, List, [], ◌∷◌, length, map, get_or, All, AllPairs, ap, refl, subst, sym, arith}
+use Rattle.std.specs.List.{list_any}
 use Rattle.std.proofs.lemmas.List.{length-map, get_or-map}
 
 module _ {X Y : Type 0} (f : X → Y) where
@@ -24,3 +25,8 @@ module _ {X Y : Type 0} (f : X → Y) where
       let e = get_or-map f (x ∷ xs) i x d first in
       let h = get_or-map f (x ∷ xs) j x d there in
       subst (λ y. R (get_or (map f (x ∷ xs)) i d) y) (sym h) (subst (λ y. R y (f (get_or (x ∷ xs) j x))) (sym e) (all i j x lt there))
+
+  -- an image passes a test where an element passes it by its image
+  pub list_any-map : (p : Y → Bool) (xs : List X) → list_any p (map f xs) ≡ list_any (λ x. p (f x)) xs
+  list_any-map p [] = refl
+  list_any-map p (x ∷ xs) = ap (λ b. p (f x) || b) (list_any-map p xs)
