@@ -2,4 +2,5 @@ pub mod ListLemmas
 pub mod WordLemmas
 pub mod LineLemmas
 pub mod SpanLemmas
+pub mod DecimalLemmas
 mod Examples

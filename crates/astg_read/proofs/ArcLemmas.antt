@@ -4,8 +4,6 @@ use Rattle.std.proofs.lemmas.Bool.{cases_Bool, or_parts, and_parts, and_from, tr
 use Rattle.std.proofs.lemmas.List.Elements.{All-nil, All-cons, All-append}
 use Rattle.std.proofs.lemmas.Slice.Eq.{bytes_eq-Decides}
 use Rattle.std.specs.List.{list_any, position_or_len}
-use Rattle.stg_net.specs.declared.trans.Edge.{Edge}
-use Rattle.stg_net.specs.declared.trans.Edge.TheVariants.{Rise, Fall, Toggle}
 use Rattle.stg_net.specs.declared.trans.TransName.{TransName}
 use Rattle.stg_net.specs.declared.arc.NetArc.{NetArc}
 use Rattle.std.specs.Option.{option_map_or}

@@ -1,7 +1,8 @@
 -- The transitions for which words stand have signals that are there and small indices.
-use Rattle.std.proofs.Common.{◌≡◌, ℕ, ◌+◌, ◌-◌, ◌*◌, ◌<◌, ◌≤◌, List, [], ◌∷◌, Bool, true, false, cond, ◌&&◌, ◌==◌, nat_le, nat_lt, length, inl, inr, refl, sym, ap, subst, Some, None, Option, option_map, option_and_then, arith, drop}
+use Rattle.std.proofs.Common.{◌≡◌, ℕ, ◌^◌, ◌<◌, List, [], ◌∷◌, Bool, true, false, cond, ◌&&◌, ◌==◌, nat_le, nat_lt, length, inl, inr, refl, sym, ap, subst, Some, None, Option, option_map, option_and_then, arith, drop}
 use Rattle.std.proofs.lemmas.Bool.{cases_Bool, and_parts, and_from, leb-true, lt-ltb}
 use Rattle.std.specs.List.{list_all}
+use Rattle.std.proofs.lemmas.Str.Parse.{digits_value_short}
 use Rattle.stg_net.specs.declared.signal.Signal.{Signal}
 use Rattle.stg_net.specs.declared.trans.Edge.{Edge}
 use Rattle.stg_net.specs.declared.trans.Edge.TheVariants.{Toggle}
@@ -11,36 +12,12 @@ use Rattle.stg_net.specs.declared.trans.TransName.{TransName}
 use Rattle.stg_net.specs.Net.{number_of}
 use Rattle.stg_net.specs.Names.{is_digit, is_name}
 use Rattle.astg_read.specs.Rows.{Word}
-use Rattle.astg_read.specs.Names.{WordOfTrans, value_after, is_number, number, index_of, change_of, edge_of, read_trans_word}
+use Rattle.astg_lex.specs.Numbers.{value_after, is_number, number}
+use Rattle.astg_lex.proofs.DecimalLemmas.{numerals}
+use Rattle.astg_read.specs.Names.{WordOfTrans, index_of, change_of, edge_of, read_trans_word}
 use Rattle.astg_read.specs.Header.{Declared, is_dummy}
 use Rattle.astg_read.specs.Nodes.{front_name, dummy_word, trans_word_parts, with_number, trans_of_word}
 use Rattle.astg_read.specs.inner.WellFormed.{is_trans_in}
-
--- a bound times ten for each digit
-abbrev scaled : ℕ → Word → ℕ
-scaled m [] = m
-scaled m (c ∷ cs) = scaled (m * 10) cs
-
-value-bound : (w : Word) (n m : ℕ) → list_all is_digit w ≡ true → n < m → value_after n w < scaled m w
-value-bound [] n m h k = k
-value-bound (c ∷ cs) n m h k =
-    let q = and_parts (is_digit c) (list_all is_digit cs) h in
-    let r = and_parts (nat_le 48 c) (nat_le c 57) q.0 in
-    let top : c ≤ 57 = leb-true c 57 r.1 in
-    value-bound cs (n * 10 + (c - 48)) (m * 10) q.1 (omega (arith, k, top))
-
-scaled-most : (w : Word) → length w ≤ 9 → scaled 1 w ≤ 1000000000
-scaled-most [] h = omega arith
-scaled-most (a ∷ []) h = omega arith
-scaled-most (a ∷ b ∷ []) h = omega arith
-scaled-most (a ∷ b ∷ c ∷ []) h = omega arith
-scaled-most (a ∷ b ∷ c ∷ d ∷ []) h = omega arith
-scaled-most (a ∷ b ∷ c ∷ d ∷ e ∷ []) h = omega arith
-scaled-most (a ∷ b ∷ c ∷ d ∷ e ∷ f ∷ []) h = omega arith
-scaled-most (a ∷ b ∷ c ∷ d ∷ e ∷ f ∷ g ∷ []) h = omega arith
-scaled-most (a ∷ b ∷ c ∷ d ∷ e ∷ f ∷ g ∷ i ∷ []) h = omega arith
-scaled-most (a ∷ b ∷ c ∷ d ∷ e ∷ f ∷ g ∷ i ∷ j ∷ []) h = omega arith
-scaled-most (a ∷ b ∷ c ∷ d ∷ e ∷ f ∷ g ∷ i ∷ j ∷ l ∷ w) h = absurd (omega (arith, h))
 
 -- what is inside an option that is there
 abbrev inside : (ℕ → Type 0) → Option ℕ → Type 0
@@ -52,7 +29,7 @@ number-small w = elim (cases_Bool (is_number w)) [
   | inl h ↦
       let q = and_parts (nat_le 1 (length w) && nat_le (length w) 9) (list_all is_digit w) h in
       let r = and_parts (nat_le 1 (length w)) (nat_le (length w) 9) q.0 in
-      let small : value_after 0 w < 1000000000 = omega (arith, value-bound w 0 1 q.1 (omega arith), scaled-most w (leb-true (length w) 9 r.1)) in
+      let small : value_after 0 w < 10 ^ 9 = digits_value_short numerals w 9 q.1 (leb-true (length w) 9 r.1) in
       subst (inside (λ n. n < 1000000000)) (sym (ap (λ b. cond b (Some (value_after 0 w)) None) h)) small
   | inr h ↦ subst (inside (λ n. n < 1000000000)) (sym (ap (λ b. cond b (Some (value_after 0 w)) None) h)) tt
 ]

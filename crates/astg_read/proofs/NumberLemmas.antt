@@ -1,8 +1,6 @@
 -- What is found in a list, and the numbers in order of first appearance.
 use Rattle.std.proofs.Common.{◌≡◌, ◌+◌, ◌<◌, ℕ, suc, List, [], ◌∷◌, ◌++◌, Bool, true, false, cond, not, ◌&&◌, ◌||◌, inl, inr, length, nat_eq, refl, sym, ap, ◌∙◌, arith, Some, None, append_assoc, append-nil, position, eq-eqb}
 use Rattle.std.proofs.lemmas.List.Folds.{list_any-append}
-use Rattle.stg_net.specs.declared.trans.Edge.{Edge}
-use Rattle.stg_net.specs.declared.trans.Edge.TheVariants.{Rise, Fall, Toggle}
 use Rattle.std.proofs.lemmas.Bool.{cases_Bool, lt-ltb, false≢true, or_left, or_parts, and_from, le-ltb}
 use Rattle.std.specs.List.{list_any, position_or_len}
 use Rattle.stg_net.specs.declared.trans.TransName.{TransName}

@@ -5,7 +5,7 @@ use Rattle.std.specs.Option.{option_map_or}
 use Rattle.stg_net.specs.Names.{is_name}
 use Rattle.stg_net.specs.declared.trans.TransName.{TransName}
 use Rattle.astg_read.specs.Rows.{Word, Row}
-use Rattle.astg_read.specs.Names.{number}
+use Rattle.astg_lex.specs.Numbers.{number}
 use Rattle.astg_read.specs.Lists.{with_new}
 use Rattle.astg_read.specs.Header.{Declared}
 use Rattle.astg_read.specs.Nodes.{is_trans_word, trans_of_word}

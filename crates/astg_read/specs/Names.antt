@@ -1,23 +1,10 @@
--- Numbers and transition words.
-use Rattle.std.specs.Prelude.{ℕ, Bool, ◌&&◌, ◌==◌, ◌+◌, ◌*◌, ◌-◌, nat_le, List, [], ◌∷◌, length, take_while, drop, Option, None, Some, if◌then◌else◌, option_map, option_and_then}
-use Rattle.std.specs.List.{list_all}
+-- Transition words.
+use Rattle.std.specs.Prelude.{ℕ, ◌==◌, List, [], ◌∷◌, length, take_while, drop, Option, None, Some, if◌then◌else◌, option_map, option_and_then}
 use Rattle.stg_net.specs.declared.trans.Edge.{Edge}
 use Rattle.stg_net.specs.declared.trans.Edge.TheVariants.{Rise, Fall, Toggle}
-use Rattle.stg_net.specs.Names.{is_digit, is_in_name, is_name}
+use Rattle.stg_net.specs.Names.{is_in_name, is_name}
+use Rattle.astg_lex.specs.Numbers.{number}
 use Rattle.astg_read.specs.Rows.{Word}
-
--- the decimal number of digits after others whose number is n; 48 is 0
-abbrev pub value_after : ℕ → Word → ℕ
-value_after n [] = n
-value_after n (c ∷ cs) = value_after (n * 10 + (c - 48)) cs
-
--- 1 to 9 digits
-abbrev pub is_number : Word → Bool
-is_number w = nat_le 1 (length w) && nat_le (length w) 9 && list_all is_digit w
-
--- the number of a word of 1 to 9 digits, none of another word
-abbrev pub number : Word → Option ℕ
-number w = if is_number w then Some (value_after 0 w) else None
 
 -- what a transition word says: a name, an edge, and an index
 pub record WordOfTrans : Type 0 where

@@ -1,7 +1,6 @@
 -- The nodes of a graph: transitions, and places by their names.
 use Rattle.std.specs.Prelude.{Bool, true, false, not, ◌&&◌, ◌||◌, nat_eq, List, take_while, drop, length, bytes_eq, Option, None, Some, is_some, is_none, option_map, option_and_then, if◌then◌else◌}
-use Rattle.stg_net.specs.declared.trans.Edge.{Edge}
-use Rattle.stg_net.specs.declared.trans.Edge.TheVariants.{Rise, Fall, Toggle}
+use Rattle.stg_net.specs.declared.trans.Edge.TheVariants.{Toggle}
 use Rattle.stg_net.specs.declared.trans.TransName.{TransName}
 use Rattle.stg_net.specs.declared.signal.Signal.{Signal}
 use Rattle.stg_net.specs.Net.{number_of, is_edge}

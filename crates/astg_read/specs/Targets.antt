@@ -1,7 +1,7 @@
 -- The targets of a graph line, and their weight groups.
 use Rattle.std.specs.Prelude.{ℕ, zero, suc, Bool, false, ◌&&◌, ◌||◌, nat_eq, nat_le, List, [], ◌∷◌, length, take, filter_map, bytes_eq, codes, Option, None, Some, is_some, if◌then◌else◌}
 use Rattle.astg_read.specs.Rows.{Word, Row}
-use Rattle.astg_read.specs.Names.{number}
+use Rattle.astg_lex.specs.Numbers.{number}
 
 -- A target with the weight group directly after it, which is empty where there is none. A group
 -- that stands after no target is alone.

@@ -7,10 +7,11 @@ ghost use Rattle.astg_read.specs.Markings as markings;
 ghost use Rattle.astg_read.specs.inner.Fronts.{front_entry};
 ghost use Rattle.astg_read.specs.inner.Views.{entry_view, entry_views, place_view, slices_view};
 
-use crate::names::{is_name, number};
+use crate::names::is_name;
 use crate::nodes::{is_trans_word, trans_of_word};
 use crate::signals::Signals;
 use crate::text_graph::TextPlace;
+use astg_lex::number;
 use std::alloc::Global;
 use stg_net::{NoMemory, Seq, TransName};
 

@@ -1,4 +1,4 @@
-//! Numbers and transition words.
+//! Names and transition words.
 
 ghost use Rattle.std.specs.Prelude.{◌≡◌, ◌≤◌, ◌<◌, true, length, option_map, IfSome};
 ghost use Rattle.std.specs.List.{list_all, prefix_len};
@@ -6,6 +6,7 @@ ghost use Rattle.stg_net.specs.Names as forms;
 ghost use Rattle.astg_read.specs.Names as names;
 ghost use Rattle.astg_read.specs.inner.Views.{trans_word_view};
 
+use astg_lex::number;
 use stg_net::Edge;
 
 /// The parts of a transition word.
@@ -14,12 +15,6 @@ pub struct TransWord<'a> {
     pub name: &'a [u8],
     pub edge: Edge,
     pub index: u32,
-}
-
-fn is_digit(c: u8) -> bool
-    ensures { result ≡ forms.is_digit c }
-{
-    c.is_ascii_digit()
 }
 
 fn begins_name(c: u8) -> bool
@@ -40,12 +35,6 @@ fn all_in_name(bytes: &[u8]) -> bool
     bytes.iter().all(|c| is_in_name(*c))
 }
 
-fn all_digits(bytes: &[u8]) -> bool
-    ensures { result ≡ list_all forms.is_digit bytes.now }
-{
-    bytes.iter().all(|c| is_digit(*c))
-}
-
 /// Whether a word has the form of a name.
 pub fn is_name(word: &[u8]) -> bool
     ensures { result ≡ forms.is_name word.now }
@@ -56,12 +45,6 @@ pub fn is_name(word: &[u8]) -> bool
     }
 }
 
-fn is_number(word: &[u8]) -> bool
-    ensures { result ≡ names.is_number word.now }
-{
-    1 <= word.len() && word.len() <= 9 && all_digits(word)
-}
-
 fn edge_of(c: u8) -> Option<Edge>
     ensures { result ≡ names.edge_of c }
 {
@@ -70,30 +53,6 @@ fn edge_of(c: u8) -> Option<Edge>
         b'-' => Some(Edge::Fall),
         b'~' => Some(Edge::Toggle),
         _ => None,
-    }
-}
-
-fn value(digits: &[u8]) -> u32
-    requires bounded { length digits.now ≤ 9 }
-    requires all { list_all forms.is_digit digits.now ≡ true }
-    ensures value { result ≡ names.value_after 0 digits.now }
-    ensures within { result < 1000000000 }
-{
-    let mut n = 0;
-    for c in digits {
-        n = n * 10 + (*c - b'0') as u32;
-    }
-    n
-}
-
-pub fn number(word: &[u8]) -> Option<u32>
-    ensures value { result ≡ names.number word.now }
-    ensures within { IfSome result (λ n. n < 1000000000) }
-{
-    if is_number(word) {
-        Some(value(word))
-    } else {
-        None
     }
 }
 

@@ -9,10 +9,9 @@ ghost use Rattle.astg_read.specs.inner.Fronts.{front_target, target_words};
 ghost use Rattle.astg_read.specs.Targets.{targets_after, words_in};
 ghost use Rattle.astg_read.specs.Targets as forms;
 
-use crate::names::number;
 use crate::nodes::{is_node, is_signal, is_unknown};
 use crate::signals::Signals;
-use astg_lex::Word;
+use astg_lex::{Word, number};
 use std::alloc::Global;
 use stg_net::{NoMemory, Seq};
 

@@ -21,7 +21,9 @@ use Rattle.astg_read.specs.inner.NoDummies.{without_dummies}
 use Rattle.astg_read.specs.Nodes.{Node, Trans, Place, node_of, trans_or_place, is_node, is_unknown, is_signal, is_trans_word, with_number, trans_of_word}
 use Rattle.astg_read.specs.Targets.{opens_group}
 use Rattle.astg_read.proofs.NumberLemmas.{position-none}
-use Rattle.astg_write.proofs.WordForms.{name-bytes, number-decimal, not_at, not_at_back}
+use Rattle.stg_net.proofs.NameBytes.{not_at, name-bytes}
+use Rattle.astg_lex.proofs.DecimalLemmas.{number-decimal}
+use Rattle.astg_write.proofs.WordForms.{not_at_back}
 
 -- the word stands for the node
 pub record IsWordOf (d : Declared) (w : Word) (m : Node) : Type 0 where

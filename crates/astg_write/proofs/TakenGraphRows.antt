@@ -20,7 +20,7 @@ use Rattle.astg_read.specs.Rules.{has_too_many, has_dummy}
 use Rattle.astg_read.specs.inner.GraphRules.{name_fault, text_arc_fault}
 use Rattle.astg_read.specs.inner.Growth.{after_row}
 use Rattle.astg_read.proofs.NodeLemmas.{fault-by_text_arcs, after-nodes}
-use Rattle.astg_write.proofs.WordForms.{number-decimal}
+use Rattle.astg_lex.proofs.DecimalLemmas.{number-decimal}
 use Rattle.astg_write.proofs.WrittenRows.{Aim, aim_words, weight_words}
 use Rattle.astg_write.proofs.TakenRows.{IsTaken, verdict-good}
 use Rattle.astg_write.proofs.NodeForms.{IsWordOf}

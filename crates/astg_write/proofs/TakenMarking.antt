@@ -14,7 +14,9 @@ use Rattle.astg_read.specs.Rows.{Word, Row}
 use Rattle.astg_read.specs.Header.{Declared}
 use Rattle.astg_read.specs.Graphs.{PlaceAt, Named, same_place}
 use Rattle.astg_read.specs.Markings.{Entry, is_closing, token_words as words_of_tokens, entries_after, before_close, after_close, entries_of, starts_between, starts_place, starts_tokens, starts_entry, is_whole_place, is_whole, named_by, names_one, with_named, tokens_of, is_bad_entry, has_bad_entry, is_bad_marking, entry_tokens}
-use Rattle.astg_write.proofs.WordForms.{name-bytes, number-decimal, digit-in_name, decimal-digits, all-weaker, not_at}
+use Rattle.stg_net.proofs.NameBytes.{not_at, name-bytes}
+use Rattle.astg_lex.proofs.DecimalLemmas.{number-decimal}
+use Rattle.astg_write.proofs.WordForms.{digit-in_name, decimal-digits, all-weaker}
 use Rattle.astg_write.proofs.WrittenRows.{token_words, entry_words}
 use Rattle.astg_write.proofs.Listed.{any-append_none, any-append_right}
 use Rattle.astg_write.specs.PlaceNames.{numbered_name}

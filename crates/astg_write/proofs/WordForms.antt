@@ -1,23 +1,17 @@
 -- The forms of written words: names, numbers and words of transitions.
 use Rattle.std.proofs.Common.{◌≡◌, ◌^◌, ◌<◌, ◌≤◌, ◌==◌, ◌&&◌, ◌||◌, nat_le, ℕ, List, [], ◌∷◌, ◌++◌, Bool, true, false, cond, not, length, refl, sym, ap, ◌∙◌, arith, inl, inr, Some, None, rules}
 use Rattle.std.proofs.lemmas.Bool.{and_parts, and_from, or_cases, or_left, or_right, true≢false, false≢true, cases_eq, cases_Bool, ne_eqb, leb-true, le-leb, eqb-true}
-use Rattle.std.proofs.lemmas.Fmt.{digits_decimal, digits_value-decimal, length-decimal-le, decimal_nonempty}
-use Rattle.std.proofs.lemmas.Str.Parse.{IsNumeralModel, numerals_by_fold}
+use Rattle.std.proofs.lemmas.Fmt.{digits_decimal, decimal_nonempty}
 use Rattle.std.specs.List.{list_all}
 use Rattle.std.specs.Prelude.{decimal}
 use Rattle.stg_net.specs.Names.{is_between, is_digit, begins_name, is_in_name, is_name}
 use Rattle.stg_net.specs.Words.{sign_of, index_text}
 use Rattle.stg_net.specs.declared.trans.Edge.{Edge}
 use Rattle.stg_net.specs.declared.trans.Edge.TheVariants.{Rise, Fall, Toggle}
-use Rattle.astg_read.specs.Names.{value_after, is_number, number}
-use Rattle.astg_write.proofs.WrittenWords.{AreWords, AreWords-word, is_word_byte, all-append}
-
--- a test that passes here and not there tells the two apart
-pub not_at : (P : ℕ → Bool) (v c : ℕ) → P v ≡ false → P c ≡ true → (c == v) ≡ false
-not_at P v c h k = elim (cases_eq c v) [
-  | inl e ↦ absurd (true≢false (sym k ∙ ap P e ∙ h))
-  | inr n ↦ ne_eqb c v n
-]
+use Rattle.stg_net.proofs.NameBytes.{not_at, begins-in_name, name-bytes}
+use Rattle.astg_lex.proofs.DecimalLemmas.{numerals}
+use Rattle.astg_lex.proofs.ListLemmas.{all-append}
+use Rattle.astg_write.proofs.WrittenWords.{AreWords, AreWords-word, is_word_byte}
 
 pub not_at_back : (P : ℕ → Bool) (v c : ℕ) → P v ≡ false → P c ≡ true → (v == c) ≡ false
 not_at_back P v c h k = elim (cases_eq v c) [
@@ -63,9 +57,6 @@ in_name-word c h =
     let range = wider 46 122 32 126 c (omega arith) (omega arith) (in_name-range c h) in
     (λ j. word_tests (away 32 refl j) (away 9 refl j) (away 13 refl j) (back 123 refl j) (back 125 refl j) (back 60 refl j) (back 62 refl j) (back 44 refl j) (back 61 refl j) (back 40 refl j) (back 41 refl j) (range j) (away 35 refl j) (away 10 refl j))
 
-begins-in_name : (c : ℕ) → begins_name c ≡ true → is_in_name c ≡ true
-begins-in_name c h = or_left (begins_name c || c == 46 || c == 91) (c == 93) (or_left (begins_name c || c == 46) (c == 91) (or_left (begins_name c) (c == 46) h))
-
 pub digit-begins : (c : ℕ) → is_digit c ≡ true → begins_name c ≡ true
 digit-begins c h = or_left (is_between 97 122 c || is_between 65 90 c || is_digit c) (c == 95) (or_right (is_between 97 122 c || is_between 65 90 c) (is_digit c) h)
 
@@ -75,14 +66,6 @@ digit-in_name c h = begins-in_name c (digit-begins c h)
 pub all-weaker : (f g : ℕ → Bool) → ((c : ℕ) → f c ≡ true → g c ≡ true) → (xs : List ℕ) → list_all f xs ≡ true → list_all g xs ≡ true
 all-weaker f g w [] h = refl
 all-weaker f g w (x ∷ xs) h = let p = and_parts (f x) (list_all f xs) h in and_from (g x) (list_all g xs) (w x p.0) (all-weaker f g w xs p.1)
-
--- a name has bytes of names
-pub name-bytes : (w : List ℕ) → is_name w ≡ true → list_all is_in_name w ≡ true
-name-bytes [] h = refl
-name-bytes (c ∷ cs) h =
-    let p = and_parts (begins_name c && nat_le (length cs) 99) (list_all is_in_name cs) h in
-    let q = and_parts (begins_name c) (nat_le (length cs) 99) p.0 in
-    and_from (is_in_name c) (list_all is_in_name cs) (begins-in_name c q.0) p.1
 
 pub name-length : (w : List ℕ) → is_name w ≡ true → length w ≤ 100
 name-length [] h = omega arith
@@ -103,27 +86,9 @@ name-some (c ∷ cs) h = omega arith
 pub AreWords-name : (w : List ℕ) → is_name w ≡ true → AreWords w (w ∷ [])
 AreWords-name w h = AreWords-in_name w (name-some w h) (all-weaker is_in_name is_word_byte in_name-word w (name-bytes w h))
 
--- numbers
-own : IsNumeralModel (λ ds. list_all is_digit ds ≡ true) (value_after 0)
-own = numerals_by_fold _ (search rules) value_after (search rules)
-
+-- a written number has digits
 pub decimal-digits : (n : ℕ) → n < 2 ^ 64 → list_all is_digit (decimal n) ≡ true
-decimal-digits n h = digits_decimal own n h
-
-pub value-decimal : (n : ℕ) → n < 2 ^ 64 → value_after 0 (decimal n) ≡ n
-value-decimal n h = digits_value-decimal own n h
-
--- a written number is read as itself
-pub number-decimal : (n : ℕ) → n < 1000000000 → number (decimal n) ≡ Some n
-number-decimal n h =
-    let fits : n < 2 ^ 64 = omega (arith, h) in
-    let at_least = decimal_nonempty n fits in
-    let at_most : length (decimal n) ≤ 9 = length-decimal-le 9 n (omega arith) (omega (arith, h)) fits in
-    let test : is_number (decimal n) ≡ true =
-    and_from (nat_le 1 (length (decimal n)) && nat_le (length (decimal n)) 9) (list_all is_digit (decimal n))
-    (and_from (nat_le 1 (length (decimal n))) (nat_le (length (decimal n)) 9) (le-leb 1 (length (decimal n)) (omega (arith, at_least))) (le-leb (length (decimal n)) 9 at_most))
-    (decimal-digits n fits) in
-    ap (λ b. cond b (Some (value_after 0 (decimal n))) None) test ∙ ap Some (value-decimal n fits)
+decimal-digits n h = digits_decimal numerals n h
 
 pub AreWords-decimal : (n : ℕ) → n < 1000000000 → AreWords (decimal n) (decimal n ∷ [])
 AreWords-decimal n h =

@@ -1,8 +1,8 @@
 use Rattle.std.proofs.Common.{◌≡◌, ◌<◌, ◌^◌, drop, true}
 use Rattle.std.specs.List.{list_all}
 use Rattle.stg_net.specs.Names.{is_digit}
-use Rattle.astg_read.specs.Names.{value_after}
-use Rattle.astg_read.proofs.names.value.Given as goal
+use Rattle.astg_lex.specs.Numbers.{value_after}
+use Rattle.astg_lex.proofs.numbers.value.Given as goal
 
 abbrev pub invariant-loop-c : goal.invariant-loop-c
 invariant-loop-c l = record {
