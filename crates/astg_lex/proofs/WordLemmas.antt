@@ -5,13 +5,15 @@ use Rattle.astg_lex.specs.Words.{words_at, is_blank, is_single, is_joining, begi
 use Rattle.std.specs.List.{prefix_len}
 use Rattle.astg_lex.specs.inner.Lengths.{word_length, word_and_rest}
 
-pick-middle : {A : Type 0} (t u : Bool) (x y z : A) → t ≡ false → u ≡ true → cond t x (cond u y z) ≡ y
+-- the choice among three by two tests
+pub pick-middle : {A : Type 0} (t u : Bool) (x y z : A) → t ≡ false → u ≡ true → cond t x (cond u y z) ≡ y
 pick-middle t u x y z h k = ap (λ s. cond s x (cond u y z)) h ∙ ap (λ s. cond s y z) k
 
-pick-last : {A : Type 0} (t u : Bool) (x y z : A) → t ≡ false → u ≡ false → cond t x (cond u y z) ≡ z
+pub pick-last : {A : Type 0} (t u : Bool) (x y z : A) → t ≡ false → u ≡ false → cond t x (cond u y z) ≡ z
 pick-last t u x y z h k = ap (λ s. cond s x (cond u y z)) h ∙ ap (λ s. cond s y z) k
 
-joining-not_blank : (b : ℕ) → is_joining b ≡ true → is_blank b ≡ false
+-- a byte that stands in a word with others is no blank
+pub joining-not_blank : (b : ℕ) → is_joining b ≡ true → is_blank b ≡ false
 joining-not_blank b h = elim (cases_Bool (is_blank b)) [ inl k ↦ absurd (true≢false (sym h ∙ ap (λ x. not (x || is_single b)) k)) | inr k ↦ k ]
 
 pub words_at-blank : (at b : ℕ) (bs : List ℕ) → is_blank b ≡ true → words_at at (b ∷ bs) ≡ words_at (at + 1) bs

@@ -1,8 +1,10 @@
 -- Where a marking ends.
-use Rattle.std.proofs.Common.{◌≡◌, ◌+◌, ◌-◌, ◌<◌, ℕ, zero, suc, List, [], ◌∷◌, true, false, cond, ◌||◌, nat_lt, inl, inr, take, drop, get_or, length, refl, sym, ap, ◌∙◌, arith}
+use Rattle.std.proofs.Common.{◌≡◌, ◌+◌, ◌-◌, ◌<◌, ℕ, zero, List, [], ◌∷◌, true, false, ◌||◌, nat_lt, inl, inr, take, drop, get_or, length, refl, sym, ap, ◌∙◌, arith}
 use Rattle.std.proofs.Math.Bool.{or-false}
-use Rattle.std.proofs.lemmas.Bool.{cases_Bool, cases_lt, lt-ltb, le-ltb, true≢false, or_right}
+use Rattle.std.proofs.lemmas.Bool.{cases_lt, lt-ltb, le-ltb, or_right}
+use Rattle.std.proofs.lemmas.List.{length-drop}
 use Rattle.std.proofs.lemmas.Slice.Eq.{bytes_eq-Decides}
+use Rattle.astg_lex.proofs.FirstLemmas.{after-later, found-within}
 use Rattle.std.specs.Prelude.{codes}
 use Rattle.std.specs.List.{list_any}
 use Rattle.std.specs.Borrow.{Bor}
@@ -14,48 +16,20 @@ use Rattle.astg_read.specs.Graphs.{PlaceAt}
 use Rattle.astg_read.specs.Markings.{is_opening, is_closing, before_close, after_close, entries_after, has_bad_entry, is_bad_marking}
 use Rattle.astg_read.specs.inner.Fronts.{close_length}
 
--- the words before the first } are the first ones
-pub before-take : (ws : Row) → before_close ws ≡ take (close_length ws) ws
-before-take [] = refl
-before-take (w ∷ ws) = elim (cases_Bool (is_closing w)) [
-  | inl k ↦ ap (λ b. cond b [] (w ∷ before_close ws)) k ∙ sym (ap (λ b. take (cond b 0 (suc (close_length ws))) (w ∷ ws)) k)
-  | inr k ↦ ap (λ b. cond b [] (w ∷ before_close ws)) k ∙ ap (λ us. w ∷ us) (before-take ws) ∙ sym (ap (λ b. take (cond b 0 (suc (close_length ws))) (w ∷ ws)) k)
-]
-
 -- how many words there are after it
-pub after-length : (ws : Row) → close_length ws + length (after_close ws) + cond (list_any is_closing ws) 1 0 ≡ length ws
-after-length [] = refl
-after-length (w ∷ ws) = elim (cases_Bool (is_closing w)) [
-  | inl k ↦ (λ j. cond (k j) 0 (suc (close_length ws)) + length (cond (k j) ws (after_close ws)) + cond (k j || list_any is_closing ws) 1 0) ∙ (let e : 0 + length ws + 1 ≡ suc (length ws) = omega arith in e)
-  | inr k ↦ (λ j. cond (k j) 0 (suc (close_length ws)) + length (cond (k j) ws (after_close ws)) + cond (k j || list_any is_closing ws) 1 0) ∙ (let e : suc (close_length ws) + length (after_close ws) + cond (list_any is_closing ws) 1 0 ≡ suc (length ws) = omega (arith, after-length ws) in e)
-]
-
-after-none : (ws : Row) → list_any is_closing ws ≡ false → length (after_close ws) ≡ 0
-after-none [] h = refl
-after-none (w ∷ ws) h = elim (cases_Bool (is_closing w)) [
-  | inl k ↦ absurd (true≢false (sym (ap (λ b. b || list_any is_closing ws) k) ∙ h))
-  | inr k ↦ ap (λ b. length (cond b ws (after_close ws))) k ∙ after-none ws (sym (ap (λ b. b || list_any is_closing ws) k) ∙ h)
-]
+after-length : (ws : Row) → length (after_close ws) ≡ length ws - (close_length ws + 1)
+after-length ws = length-drop (close_length ws + 1) ws
 
 -- whether there is one
-pub closed-from : (ws : Row) (n : ℕ) → n ≡ length ws → list_any is_closing ws ≡ nat_lt (close_length ws) n
-closed-from ws n e = elim (cases_Bool (list_any is_closing ws)) [
-  | inl k ↦ k ∙ sym (lt-ltb (close_length ws) n (omega (arith, after-length ws, ap {B = ℕ} (λ b. cond b 1 0) k, e)))
-  | inr k ↦ k ∙ sym (le-ltb (close_length ws) n (omega (arith, after-length ws, ap {B = ℕ} (λ b. cond b 1 0) k, after-none ws k, e)))
-]
+closed-from : (ws : Row) (n : ℕ) → n ≡ length ws → list_any is_closing ws ≡ nat_lt (close_length ws) n
+closed-from ws n e = found-within is_closing ws ∙ ap (nat_lt (close_length ws)) (sym e)
 
 -- whether words follow it
-pub followed-from : (ws : Row) (n : ℕ) → n ≡ length ws → nat_lt 0 (length (after_close ws)) ≡ nat_lt 1 (n - close_length ws)
-followed-from ws n e = elim (cases_Bool (list_any is_closing ws)) [
-  | inl k ↦ by_length (omega (arith, after-length ws, ap {B = ℕ} (λ b. cond b 1 0) k, e))
-  | inr k ↦ le-ltb 0 (length (after_close ws)) (omega (arith, after-none ws k)) ∙ sym (le-ltb 1 (n - close_length ws) (omega (arith, after-length ws, ap {B = ℕ} (λ b. cond b 1 0) k, after-none ws k, e)))
-]
+followed-from : (ws : Row) (n : ℕ) → n ≡ length ws → nat_lt 0 (length (after_close ws)) ≡ nat_lt 1 (n - close_length ws)
+followed-from ws n e = by_length (length (after_close ws)) (n - close_length ws) (omega (arith, after-length ws, e))
   where
-    by_length : n - close_length ws ≡ length (after_close ws) + 1 → nat_lt 0 (length (after_close ws)) ≡ nat_lt 1 (n - close_length ws)
-    by_length h = by_count (length (after_close ws)) ∙ ap (nat_lt 1) (sym h)
-      where
-        by_count : (m : ℕ) → nat_lt 0 m ≡ nat_lt 1 (m + 1)
-        by_count m = elim (cases_lt 0 m) [ inl p ↦ lt-ltb 0 m p ∙ sym (lt-ltb 1 (m + 1) (omega (arith, p))) | inr q ↦ le-ltb 0 m q ∙ sym (le-ltb 1 (m + 1) (omega (arith, q))) ]
+    by_length : (m k : ℕ) → m ≡ k - 1 → nat_lt 0 m ≡ nat_lt 1 k
+    by_length m k h = elim (cases_lt 0 m) [ inl p ↦ lt-ltb 0 m p ∙ sym (lt-ltb 1 k (omega (arith, p, h))) | inr q ↦ le-ltb 0 m q ∙ sym (le-ltb 1 k (omega (arith, q, h))) ]
 
 module _ (most : ℕ) (d : Declared) (places : List PlaceAt) where
   -- a marking that begins with {
@@ -64,6 +38,7 @@ module _ (most : ℕ) (d : Declared) (places : List PlaceAt) where
   opened w ws h =
       let e : w ≡ codes "{" = (bytes_eq-Decides w (codes "{")).0 h in
       ap (λ v. is_bad_marking most d places (v ∷ ws)) e
+      ∙ ap (λ us. has_bad_entry most d places (list_any is_closing ws) [] (entries_after zero (before_close ws)) || nat_lt 0 (length us)) (after-later is_closing (codes "{") ws refl)
 
   -- the same of words that are slices of the text
   opened-words : (words : List (Bor (List ℕ))) (x : Bor (List ℕ)) → 0 < length words → is_opening (get_or words 0 x).now ≡ true
@@ -81,7 +56,7 @@ module _ (most : ℕ) (d : Declared) (places : List PlaceAt) where
     by_rest : is_bad_marking most d places (slices_view words) ≡ (has_bad_entry most d places (nat_lt count long) [] (entries_after zero (take count (slices_view rest))) || nat_lt 1 (long - count))
     by_rest = opened-words words x some h
         ∙ ap (λ ws. has_bad_entry most d places (list_any is_closing (slices_view ws)) [] (entries_after zero (before_close (slices_view ws))) || nat_lt 0 (length (after_close (slices_view ws)))) (sym e)
-        ∙ (λ j. has_bad_entry most d places ((closed-from (slices_view rest) long view-long ∙ ap (λ n. nat_lt n long) (sym k)) j) [] (entries_after zero ((before-take (slices_view rest) ∙ ap (λ n. take n (slices_view rest)) (sym k)) j)) || (followed-from (slices_view rest) long view-long ∙ ap (λ n. nat_lt 1 (long - n)) (sym k)) j)
+        ∙ (λ j. has_bad_entry most d places ((closed-from (slices_view rest) long view-long ∙ ap (λ n. nat_lt n long) (sym k)) j) [] (entries_after zero (ap (λ n. take n (slices_view rest)) (sym k) j)) || (followed-from (slices_view rest) long view-long ∙ ap (λ n. nat_lt 1 (long - n)) (sym k)) j)
 
     -- words follow the end
     pub followed : nat_lt 1 (long - count) ≡ true → is_bad_marking most d places (slices_view words) ≡ true

@@ -8,7 +8,7 @@ use Rattle.stg_net.specs.declared.limits.Limits.{Limits}
 use Rattle.stg_net.specs.declared.signal.Signal.{Signal}
 use Rattle.astg_read.specs.declared.rule.Rule.{Rule}
 use Rattle.astg_read.specs.declared.rule.Rule.TheVariants.{BadMarking, TooMany, HasDummy, UnknownDirective, OutOfOrder}
-use Rattle.astg_read.specs.Rows.{Word, Row, begins, after_first, is_header, is_directive, is_graph_row}
+use Rattle.astg_read.specs.Rows.{Word, Row, begins, other_words, is_header, is_directive, is_graph_row}
 use Rattle.astg_read.specs.Markings.{before_close, is_bad_marking, is_unfinished}
 use Rattle.astg_read.specs.Said.{Said, arcs_in}
 use Rattle.astg_read.specs.Rules.{line_rules, has_too_many, breaks_directive, breaks_order, breaks_marking, marking_with, ends_text}
@@ -33,7 +33,7 @@ said_up_to-else : (k : Said) (row : Row) → ends_text k row ≡ false → said_
 said_up_to-else k row h = past (ends_text k row) k (after_row k row) h
 
 -- the marking begins on this line
-marking-row : (row : Row) → begins (codes ".marking") row ≡ true → row ≡ codes ".marking" ∷ after_first row
+marking-row : (row : Row) → begins (codes ".marking") row ≡ true → row ≡ codes ".marking" ∷ other_words row
 marking-row [] h = absurd (false≢true h)
 marking-row (w ∷ ws) h = ap (λ v. v ∷ ws) ((bytes_eq-Decides w (codes ".marking")).0 h)
 
@@ -66,8 +66,8 @@ test-false : (b : Bool) (r : Rule) → cond b (Some r) None ≡ None → b ≡ f
 test-false true r h = cc
 test-false false r h = refl
 
-marking-with : (k : Said) (m : Option Row) (row : Row) → k.marking ≡ m → marking_with k row ≡ cond (is_some m) (unwrap_or m [] ++ row) (after_first row)
-marking-with k m row e = ap (λ o. cond (is_some o) (unwrap_or o [] ++ row) (after_first row)) e
+marking-with : (k : Said) (m : Option Row) (row : Row) → k.marking ≡ m → marking_with k row ≡ cond (is_some m) (unwrap_or m [] ++ row) (other_words row)
+marking-with k m row e = ap (λ o. cond (is_some o) (unwrap_or o [] ++ row) (other_words row)) e
 
 -- inside a marking
 faultless-inside : (limits : Limits) (k : Said) (words row : Row) → k.marking ≡ Some words → is_unfinished k.marking ≡ true → IsFaultless limits k → verdict limits k row ≡ None → IsFaultless limits (said_up_to k row)
@@ -112,15 +112,15 @@ good-after most k row None e g none n false h =
 good-after most k row None e g none n true h =
     let P : Said → Type 0 = λ q. IsGood most q in
     subst P (sym (after-begun k None row h e)) (elim (cases_Bool (begins (codes ".marking") row)) [
-      | inl b ↦ subst P (sym (stop (begins (codes ".marking") row) (record k { marking = Some (after_first row) }) (cond (is_graph_row row) (with_graph_row k row) k) b)) (h, bad b)
-      | inr b ↦ subst P (sym (past (begins (codes ".marking") row) (record k { marking = Some (after_first row) }) (cond (is_graph_row row) (with_graph_row k row) k) b)) (by_kind (is_graph_row row))
+      | inl b ↦ subst P (sym (stop (begins (codes ".marking") row) (record k { marking = Some (other_words row) }) (cond (is_graph_row row) (with_graph_row k row) k) b)) (h, bad b)
+      | inr b ↦ subst P (sym (past (begins (codes ".marking") row) (record k { marking = Some (other_words row) }) (cond (is_graph_row row) (with_graph_row k row) k) b)) (by_kind (is_graph_row row))
     ])
   where
-    bad : begins (codes ".marking") row ≡ true → is_bad_marking most k.declared k.places (after_first row) ≡ false
+    bad : begins (codes ".marking") row ≡ true → is_bad_marking most k.declared k.places (other_words row) ≡ false
     bad b =
-        let f : cond (breaks_marking most k (codes ".marking" ∷ after_first row)) (Some BadMarking) None ≡ None =
-        sym (begun-marking most k (after_first row) h e) ∙ ap (line_fault most k) (sym (marking-row row b)) ∙ none in
-        sym (ap (is_bad_marking most k.declared k.places) (marking-with k None (codes ".marking" ∷ after_first row) e)) ∙ test-false (breaks_marking most k (codes ".marking" ∷ after_first row)) BadMarking f
+        let f : cond (breaks_marking most k (codes ".marking" ∷ other_words row)) (Some BadMarking) None ≡ None =
+        sym (begun-marking most k (other_words row) h e) ∙ ap (line_fault most k) (sym (marking-row row b)) ∙ none in
+        sym (ap (is_bad_marking most k.declared k.places) (marking-with k None (codes ".marking" ∷ other_words row) e)) ∙ test-false (breaks_marking most k (codes ".marking" ∷ other_words row)) BadMarking f
 
     by_kind : (b : Bool) → IsGood most (cond b (with_graph_row k row) k)
     by_kind true = subst (λ o. MatchOption o ⊤ (λ ws. (k.has_graph ≡ true) × (is_bad_marking most k.declared (with_graph_row k row).places ws ≡ false))) (sym e) tt
@@ -135,12 +135,12 @@ faultless-outside limits k row outside kept v =
       | inr h ↦ elim (cases_Bool (begins (codes ".dummy") row)) [
         | inl d ↦
             let row_is = dummy-row row d in
-            let w : verdict limits k (codes ".dummy" ∷ after_first row) ≡ None = ap (verdict limits k) (sym row_is) ∙ v in
-            let parts = or_later-none (line_fault limits.weight k (codes ".dummy" ∷ after_first row)) (cond (nat_lt 0 (length (after_first row))) (Some HasDummy) None) (sym (verdict-dummies limits k (after_first row) outside) ∙ w) in
-            let empty : after_first row ≡ [] = no_words (after_first row) (test-false (nat_lt 0 (length (after_first row))) HasDummy parts.1) in
+            let w : verdict limits k (codes ".dummy" ∷ other_words row) ≡ None = ap (verdict limits k) (sym row_is) ∙ v in
+            let parts = or_later-none (line_fault limits.weight k (codes ".dummy" ∷ other_words row)) (cond (nat_lt 0 (length (other_words row))) (Some HasDummy) None) (sym (verdict-dummies limits k (other_words row) outside) ∙ w) in
+            let empty : other_words row ≡ [] = no_words (other_words row) (test-false (nat_lt 0 (length (other_words row))) HasDummy parts.1) in
             let whole : row ≡ codes ".dummy" ∷ [] = row_is ∙ ap (λ ws. codes ".dummy" ∷ ws) empty in
-            let good = good-after limits.weight k (codes ".dummy" ∷ after_first row) k.marking refl kept.good parts.0 refl k.has_graph refl in
-            subst P (sym (said_up_to-else k row h)) (record { few = few-dummy row whole; counts = counts-dummy row whole; good = subst (λ r. IsGood limits.weight (after_row k r)) (sym row_is) good; well_formed = subst (λ r. IsWellFormed limits.weight (after_row k r)) (sym row_is) (well_formed-after limits.weight k (codes ".dummy" ∷ after_first row) parts.0 kept.well_formed) })
+            let good = good-after limits.weight k (codes ".dummy" ∷ other_words row) k.marking refl kept.good parts.0 refl k.has_graph refl in
+            subst P (sym (said_up_to-else k row h)) (record { few = few-dummy row whole; counts = counts-dummy row whole; good = subst (λ r. IsGood limits.weight (after_row k r)) (sym row_is) good; well_formed = subst (λ r. IsWellFormed limits.weight (after_row k r)) (sym row_is) (well_formed-after limits.weight k (codes ".dummy" ∷ other_words row) parts.0 kept.well_formed) })
         | inr d ↦
             let parts = or_later-none (line_fault limits.weight k row) (cond (has_too_many limits (after_row k row)) (Some TooMany) None) (sym (verdict-said limits k row outside d) ∙ v) in
             let few : has_too_many limits (said_up_to k row) ≡ false = sym (too-said_up_to limits k row) ∙ test-false (has_too_many limits (after_row k row)) TooMany parts.1 in

@@ -2,14 +2,15 @@
 use Rattle.std.proofs.Common.{◌≡◌, List, [], ◌∷◌, ◌++◌, Bool, true, false, cond, ◌||◌, inl, inr, filter, flat_map, refl, sym, ap, ◌∙◌, None, Some, Option, append_assoc, append-nil}
 use Rattle.std.proofs.Math.Bool.{or-false}
 use Rattle.std.proofs.lemmas.List.Folds.{list_any-append}
-use Rattle.astg_lex.proofs.ListLemmas.{cond_same}
+use Rattle.std.specs.List.{list_any}
+use Rattle.astg_lex.proofs.FirstLemmas.{before-found, after-found, before-missing, after-missing, before-none, after-none, before-one, after-one}
 use Rattle.std.proofs.lemmas.List.Concat.{flat_map-append}
 use Rattle.std.proofs.lemmas.List.Elements.{filter-append}
-use Rattle.std.proofs.lemmas.Bool.{cases_Bool, or_parts, false≢true}
+use Rattle.std.proofs.lemmas.Bool.{cases_Bool}
 use Rattle.std.proofs.Common.{option_map}
 use Rattle.std.specs.Prelude.{codes}
 use Rattle.astg_read.specs.Lists.{firsts, with_new}
-use Rattle.astg_read.specs.Rows.{Row, begins, after_first, has_graph, header_rows, rows_after_graph, before_marking, words_of_marking, marking_words, graph_rows, is_graph_row}
+use Rattle.astg_read.specs.Rows.{Row, begins, other_words, has_graph, header_rows, rows_after_graph, before_marking, words_of_marking, marking_words, graph_rows, is_graph_row}
 use Rattle.astg_read.specs.Header.{Declared, declared_in, signals_on, dummies_on}
 use Rattle.astg_read.specs.Nodes.{same_trans}
 use Rattle.astg_read.specs.Graphs.{same_place, trans_on, places_on, text_arcs_on, transitions, places, text_arcs}
@@ -33,65 +34,52 @@ graph-append rows row = list_any-append is_start rows (row ∷ []) ∙ ap (λ b.
 
 -- where .graph stood, nothing is added to the lines before it
 header-after : (rows : List Row) (row : Row) → has_graph rows ≡ true → header_rows (rows ++ row ∷ []) ≡ header_rows rows
-header-after [] row h = absurd (false≢true h)
-header-after (r ∷ rows) row h = elim (cases_Bool (is_start r)) [
-  | inl k ↦ ap (λ b. cond b [] (r ∷ header_rows (rows ++ row ∷ []))) k ∙ sym (ap (λ b. cond b [] (r ∷ header_rows rows)) k)
-  | inr k ↦ ap (λ rs. cond (is_start r) [] (r ∷ rs)) (header-after rows row (sym (ap (λ b. b || has_graph rows) k) ∙ h))
-]
+header-after rows row h = before-found is_start rows (row ∷ []) h
 
 after-after : (rows : List Row) (row : Row) → has_graph rows ≡ true → rows_after_graph (rows ++ row ∷ []) ≡ rows_after_graph rows ++ row ∷ []
-after-after [] row h = absurd (false≢true h)
-after-after (r ∷ rows) row h = elim (cases_Bool (is_start r)) [
-  | inl k ↦ ap (λ b. cond b (rows ++ row ∷ []) (rows_after_graph (rows ++ row ∷ []))) k ∙ sym (ap (λ b. cond b rows (rows_after_graph rows) ++ row ∷ []) k)
-  | inr k ↦ ap (λ b. cond b (rows ++ row ∷ []) (rows_after_graph (rows ++ row ∷ []))) k ∙ after-after rows row (sym (ap (λ b. b || has_graph rows) k) ∙ h) ∙ sym (ap (λ b. cond b rows (rows_after_graph rows) ++ row ∷ []) k)
-]
+after-after rows row h = after-found is_start rows (row ∷ []) h
 
 -- where it didn't, the line joins the lines before it or is .graph itself
 header-before : (rows : List Row) (row : Row) → has_graph rows ≡ false → header_rows (rows ++ row ∷ []) ≡ rows ++ cond (is_start row) [] (row ∷ [])
-header-before [] row h = refl
-header-before (r ∷ rows) row h = let k = (or_parts (is_start r) (has_graph rows) h) in
-    ap (λ b. cond b [] (r ∷ header_rows (rows ++ row ∷ []))) k.0 ∙ ap (λ rs. r ∷ rs) (header-before rows row k.1)
-
-header-all : (rows : List Row) → has_graph rows ≡ false → header_rows rows ≡ rows
-header-all [] h = refl
-header-all (r ∷ rows) h = let k = (or_parts (is_start r) (has_graph rows) h) in
-    ap (λ b. cond b [] (r ∷ header_rows rows)) k.0 ∙ ap (λ rs. r ∷ rs) (header-all rows k.1)
-
-after-none : (rows : List Row) → has_graph rows ≡ false → rows_after_graph rows ≡ []
-after-none [] h = refl
-after-none (r ∷ rows) h = let k = (or_parts (is_start r) (has_graph rows) h) in
-    ap (λ b. cond b rows (rows_after_graph rows)) k.0 ∙ after-none rows k.1
+header-before rows row h = before-missing is_start rows (row ∷ []) h ∙ ap (λ rs. rows ++ rs) (before-one is_start row)
 
 after-before : (rows : List Row) (row : Row) → has_graph rows ≡ false → rows_after_graph (rows ++ row ∷ []) ≡ []
-after-before [] row h = cond_same (is_start row) []
-after-before (r ∷ rows) row h = let k = (or_parts (is_start r) (has_graph rows) h) in
-    ap (λ b. cond b (rows ++ row ∷ []) (rows_after_graph (rows ++ row ∷ []))) k.0 ∙ after-before rows row k.1
+after-before rows row h = after-missing is_start rows (row ∷ []) h ∙ after-one is_start row
 
 abbrev is_marking : Row → Bool
 is_marking row = begins (codes ".marking") row
 
--- before the marking
-marking-before : (rows : List Row) (row : Row) → words_of_marking rows ≡ None → before_marking (rows ++ row ∷ []) ≡ before_marking rows ++ cond (is_marking row) [] (row ∷ [])
-marking-before [] row h = refl
-marking-before (r ∷ rows) row h = elim (cases_Bool (is_marking r)) [
-  | inl k ↦ absurd (none_some (sym h ∙ ap (λ b. cond b (Some (after_first r ++ flat_map (λ x. x) rows)) (words_of_marking rows)) k))
-  | inr k ↦ ap (λ b. cond b [] (r ∷ before_marking (rows ++ row ∷ []))) k ∙ ap (λ rs. r ∷ rs) (marking-before rows row (sym (ap (λ b. cond b (Some (after_first r ++ flat_map (λ x. x) rows)) (words_of_marking rows)) k) ∙ h)) ∙ sym (ap (λ b. cond b [] (r ∷ before_marking rows) ++ cond (is_marking row) [] (row ∷ [])) k)
+-- the marking has begun exactly where .marking stood
+marking-missing : (rows : List Row) → words_of_marking rows ≡ None → list_any is_marking rows ≡ false
+marking-missing [] h = refl
+marking-missing (r ∷ rows) h = elim (cases_Bool (is_marking r)) [
+  | inl k ↦ absurd (none_some (sym h ∙ ap (λ b. cond b (Some (other_words r ++ flat_map (λ x. x) rows)) (words_of_marking rows)) k))
+  | inr k ↦ ap (λ b. b || list_any is_marking rows) k ∙ marking-missing rows (sym (ap (λ b. cond b (Some (other_words r ++ flat_map (λ x. x) rows)) (words_of_marking rows)) k) ∙ h)
 ]
 
-words-before : (rows : List Row) (row : Row) → words_of_marking rows ≡ None → words_of_marking (rows ++ row ∷ []) ≡ cond (is_marking row) (Some (after_first row)) None
-words-before [] row h = ap (λ ws. cond (is_marking row) (Some ws) None) (append-nil (after_first row))
+marking-found : (rows : List Row) (words : Row) → words_of_marking rows ≡ Some words → list_any is_marking rows ≡ true
+marking-found [] words h = absurd (none_some h)
+marking-found (r ∷ rows) words h = elim (cases_Bool (is_marking r)) [
+  | inl k ↦ ap (λ b. b || list_any is_marking rows) k
+  | inr k ↦ ap (λ b. b || list_any is_marking rows) k ∙ marking-found rows words (sym (ap (λ b. cond b (Some (other_words r ++ flat_map (λ x. x) rows)) (words_of_marking rows)) k) ∙ h)
+]
+
+-- before the marking
+marking-before : (rows : List Row) (row : Row) → words_of_marking rows ≡ None → before_marking (rows ++ row ∷ []) ≡ before_marking rows ++ cond (is_marking row) [] (row ∷ [])
+marking-before rows row h =
+    let none = marking-missing rows h in
+    before-missing is_marking rows (row ∷ []) none ∙ ap (λ rs. rows ++ rs) (before-one is_marking row) ∙ ap (λ rs. rs ++ cond (is_marking row) [] (row ∷ [])) (sym (before-none is_marking rows none))
+
+words-before : (rows : List Row) (row : Row) → words_of_marking rows ≡ None → words_of_marking (rows ++ row ∷ []) ≡ cond (is_marking row) (Some (other_words row)) None
+words-before [] row h = ap (λ ws. cond (is_marking row) (Some ws) None) (append-nil (other_words row))
 words-before (r ∷ rows) row h = elim (cases_Bool (is_marking r)) [
-  | inl k ↦ absurd (none_some (sym h ∙ ap (λ b. cond b (Some (after_first r ++ flat_map (λ x. x) rows)) (words_of_marking rows)) k))
-  | inr k ↦ ap (λ b. cond b (Some (after_first r ++ flat_map (λ x. x) (rows ++ row ∷ []))) (words_of_marking (rows ++ row ∷ []))) k ∙ words-before rows row (sym (ap (λ b. cond b (Some (after_first r ++ flat_map (λ x. x) rows)) (words_of_marking rows)) k) ∙ h)
+  | inl k ↦ absurd (none_some (sym h ∙ ap (λ b. cond b (Some (other_words r ++ flat_map (λ x. x) rows)) (words_of_marking rows)) k))
+  | inr k ↦ ap (λ b. cond b (Some (other_words r ++ flat_map (λ x. x) (rows ++ row ∷ []))) (words_of_marking (rows ++ row ∷ []))) k ∙ words-before rows row (sym (ap (λ b. cond b (Some (other_words r ++ flat_map (λ x. x) rows)) (words_of_marking rows)) k) ∙ h)
 ]
 
 -- in the marking
 marking-after : (rows : List Row) (row : Row) (words : Row) → words_of_marking rows ≡ Some words → before_marking (rows ++ row ∷ []) ≡ before_marking rows
-marking-after [] row words h = absurd (none_some h)
-marking-after (r ∷ rows) row words h = elim (cases_Bool (is_marking r)) [
-  | inl k ↦ ap (λ b. cond b [] (r ∷ before_marking (rows ++ row ∷ []))) k ∙ sym (ap (λ b. cond b [] (r ∷ before_marking rows)) k)
-  | inr k ↦ ap (λ rs. cond (is_marking r) [] (r ∷ rs)) (marking-after rows row words (sym (ap (λ b. cond b (Some (after_first r ++ flat_map (λ x. x) rows)) (words_of_marking rows)) k) ∙ h))
-]
+marking-after rows row words h = before-found is_marking rows (row ∷ []) (marking-found rows words h)
 
 join-more : (rows : List Row) (row : Row) → flat_map (λ x. x) (rows ++ row ∷ []) ≡ flat_map (λ x. x) rows ++ row
 join-more [] row = append-nil row
@@ -100,10 +88,10 @@ join-more (r ∷ rows) row = ap (λ ws. r ++ ws) (join-more rows row) ∙ sym (a
 words-after : (rows : List Row) (row : Row) (words : Row) → words_of_marking rows ≡ Some words → words_of_marking (rows ++ row ∷ []) ≡ Some (words ++ row)
 words-after [] row words h = absurd (none_some h)
 words-after (r ∷ rows) row words h = elim (cases_Bool (is_marking r)) [
-  | inl k ↦ ap (λ b. cond b (Some (after_first r ++ flat_map (λ x. x) (rows ++ row ∷ []))) (words_of_marking (rows ++ row ∷ []))) k
-      ∙ ap (λ ws. Some (after_first r ++ ws)) (join-more rows row) ∙ ap Some (sym (append_assoc (after_first r) (flat_map (λ x. x) rows) row))
-      ∙ ap (option_map (λ ws. ws ++ row)) (sym (ap (λ b. cond b (Some (after_first r ++ flat_map (λ x. x) rows)) (words_of_marking rows)) k) ∙ h)
-  | inr k ↦ ap (λ b. cond b (Some (after_first r ++ flat_map (λ x. x) (rows ++ row ∷ []))) (words_of_marking (rows ++ row ∷ []))) k ∙ words-after rows row words (sym (ap (λ b. cond b (Some (after_first r ++ flat_map (λ x. x) rows)) (words_of_marking rows)) k) ∙ h)
+  | inl k ↦ ap (λ b. cond b (Some (other_words r ++ flat_map (λ x. x) (rows ++ row ∷ []))) (words_of_marking (rows ++ row ∷ []))) k
+      ∙ ap (λ ws. Some (other_words r ++ ws)) (join-more rows row) ∙ ap Some (sym (append_assoc (other_words r) (flat_map (λ x. x) rows) row))
+      ∙ ap (option_map (λ ws. ws ++ row)) (sym (ap (λ b. cond b (Some (other_words r ++ flat_map (λ x. x) rows)) (words_of_marking rows)) k) ∙ h)
+  | inr k ↦ ap (λ b. cond b (Some (other_words r ++ flat_map (λ x. x) (rows ++ row ∷ []))) (words_of_marking (rows ++ row ∷ []))) k ∙ words-after rows row words (sym (ap (λ b. cond b (Some (other_words r ++ flat_map (λ x. x) rows)) (words_of_marking rows)) k) ∙ h)
 ]
 
 -- what holds of these four
@@ -136,9 +124,9 @@ Grows rows row = said (rows ++ row ∷ []) ≡ after_row (said rows) row
 
 grows-header : (rows : List Row) (row : Row) → has_graph rows ≡ false → Grows rows row
 grows-header rows row h =
-    let graph : graph_rows (rows ++ row ∷ []) ≡ graph_rows rows = ap (λ rs. filter is_graph_row (before_marking rs)) (after-before rows row h ∙ sym (after-none rows h)) in
-    let words : marking_words (rows ++ row ∷ []) ≡ marking_words rows = ap words_of_marking (after-before rows row h ∙ sym (after-none rows h)) in
-    let names : declared_in rows ≡ by_rows rows = ap by_rows (header-all rows h) in
+    let graph : graph_rows (rows ++ row ∷ []) ≡ graph_rows rows = ap (λ rs. filter is_graph_row (before_marking rs)) (after-before rows row h ∙ sym (after-none is_start rows h)) in
+    let words : marking_words (rows ++ row ∷ []) ≡ marking_words rows = ap words_of_marking (after-before rows row h ∙ sym (after-none is_start rows h)) in
+    let names : declared_in rows ≡ by_rows rows = ap by_rows (before-none is_start rows h) in
     let whole = ap (λ b. cond b (after_graph (said rows) (marking_words rows) row) (with_header (said rows) row)) h in
     elim (cases_Bool (is_start row)) [
       | inl k ↦ same_said (has_graph (rows ++ row ∷ [])) true (declared_in (rows ++ row ∷ [])) (declared_in rows) (graph_rows (rows ++ row ∷ [])) (graph_rows rows) (marking_words (rows ++ row ∷ [])) (marking_words rows)
@@ -147,7 +135,7 @@ grows-header rows row h =
           graph words
           ∙ sym (whole ∙ ap (λ b. cond b (record (said rows) { has_graph = true }) (record (said rows) { declared = with_names (declared_in rows) row })) k)
       | inr k ↦
-          let none : graph_rows rows ≡ [] = ap (λ rs. filter is_graph_row (before_marking rs)) (after-none rows h) in
+          let none : graph_rows rows ≡ [] = ap (λ rs. filter is_graph_row (before_marking rs)) (after-none is_start rows h) in
           same_said (has_graph (rows ++ row ∷ [])) (has_graph rows) (declared_in (rows ++ row ∷ [])) (with_names (declared_in rows) row) (graph_rows (rows ++ row ∷ [])) [] (marking_words (rows ++ row ∷ [])) (marking_words rows)
           (graph-append rows row ∙ ap (λ b. b || is_start row) h ∙ k ∙ sym h)
           (ap by_rows (header-before rows row h) ∙ ap (λ b. by_rows (rows ++ cond b [] (row ∷ []))) k ∙ by_rows-after rows row ∙ ap (λ d. with_names d row) (sym names))
@@ -180,16 +168,16 @@ grows-graph rows row h None e =
     let signals : declared_in (rows ++ row ∷ []) ≡ declared_in rows = ap by_rows (header-after rows row h) in
     let graph : graph_rows (rows ++ row ∷ []) ≡ graph_rows rows ++ filter is_graph_row (cond (is_marking row) [] (row ∷ [])) =
     ap (λ rs. filter is_graph_row (before_marking rs)) after ∙ ap (filter is_graph_row) (marking-before (rows_after_graph rows) row e) ∙ filter-append is_graph_row (before_marking (rows_after_graph rows)) (cond (is_marking row) [] (row ∷ [])) in
-    let words : marking_words (rows ++ row ∷ []) ≡ cond (is_marking row) (Some (after_first row)) None = ap words_of_marking after ∙ words-before (rows_after_graph rows) row e in
+    let words : marking_words (rows ++ row ∷ []) ≡ cond (is_marking row) (Some (other_words row)) None = ap words_of_marking after ∙ words-before (rows_after_graph rows) row e in
     elim (cases_Bool (is_marking row)) [
-      | inl k ↦ same_said (has_graph (rows ++ row ∷ [])) (has_graph rows) (declared_in (rows ++ row ∷ [])) (declared_in rows) (graph_rows (rows ++ row ∷ [])) (graph_rows rows) (marking_words (rows ++ row ∷ [])) (Some (after_first row))
+      | inl k ↦ same_said (has_graph (rows ++ row ∷ [])) (has_graph rows) (declared_in (rows ++ row ∷ [])) (declared_in rows) (graph_rows (rows ++ row ∷ [])) (graph_rows rows) (marking_words (rows ++ row ∷ [])) (Some (other_words row))
           stood signals
           (graph ∙ ap (λ b. graph_rows rows ++ filter is_graph_row (cond b [] (row ∷ []))) k ∙ append-nil (graph_rows rows))
-          (words ∙ ap (λ b. cond b (Some (after_first row)) None) k)
-          ∙ sym (whole ∙ ap (λ b. cond b (record (said rows) { marking = Some (after_first row) }) (cond (is_graph_row row) (with_graph_row (said rows) row) (said rows))) k)
+          (words ∙ ap (λ b. cond b (Some (other_words row)) None) k)
+          ∙ sym (whole ∙ ap (λ b. cond b (record (said rows) { marking = Some (other_words row) }) (cond (is_graph_row row) (with_graph_row (said rows) row) (said rows))) k)
       | inr k ↦
-          let others = ap (λ b. cond b (record (said rows) { marking = Some (after_first row) }) (cond (is_graph_row row) (with_graph_row (said rows) row) (said rows))) k in
-          let no_marking = words ∙ ap (λ b. cond b (Some (after_first row)) None) k ∙ sym e in
+          let others = ap (λ b. cond b (record (said rows) { marking = Some (other_words row) }) (cond (is_graph_row row) (with_graph_row (said rows) row) (said rows))) k in
+          let no_marking = words ∙ ap (λ b. cond b (Some (other_words row)) None) k ∙ sym e in
           elim (cases_Bool (is_graph_row row)) [
             | inl g ↦ same_said (has_graph (rows ++ row ∷ [])) (has_graph rows) (declared_in (rows ++ row ∷ [])) (declared_in rows) (graph_rows (rows ++ row ∷ [])) (graph_rows rows ++ row ∷ []) (marking_words (rows ++ row ∷ [])) (marking_words rows)
                 stood signals (graph ∙ ap (λ b. graph_rows rows ++ filter is_graph_row (cond b [] (row ∷ []))) k ∙ ap (λ b. graph_rows rows ++ cond b (row ∷ []) []) g) no_marking

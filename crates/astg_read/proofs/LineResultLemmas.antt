@@ -12,7 +12,7 @@ use Rattle.astg_read.specs.declared.rule.Rule.{Rule}
 use Rattle.astg_read.specs.declared.rule.Rule.TheVariants.{TooMany, HasDummy, UnknownDirective}
 use Rattle.astg_read.specs.declared.line_error.LineError.{LineError}
 use Rattle.astg_read.specs.declared.line_error.LineError.TheVariants.{Broken, NoMemory}
-use Rattle.astg_read.specs.Rows.{Word, Row, begins, begins_with_dot, after_first}
+use Rattle.astg_read.specs.Rows.{Word, Row, begins, begins_with_dot, other_words}
 use Rattle.astg_read.specs.Markings.{is_unfinished}
 use Rattle.astg_read.specs.Said.{Said}
 use Rattle.astg_read.specs.Rules.{first_broken, line_rules, outside_rules, has_too_many, has_dummy, breaks_directive, ends_text}
@@ -34,7 +34,7 @@ pub verdict-said : (limits : Limits) (k : Said) (row : Row) → is_unfinished k.
 verdict-said limits k row h e =
     verdict-outside limits k row h
     ∙ first_broken-append (line_rules limits.weight k row) ((not (begins (codes ".dummy") row) && has_too_many limits (after_row k row), TooMany) ∷ (has_dummy row, HasDummy) ∷ [])
-    ∙ (λ j. or_later (line_fault limits.weight k row) (cond (not (e j) && has_too_many limits (after_row k row)) (Some TooMany) (cond (e j && nat_lt 0 (length (after_first row))) (Some HasDummy) None)))
+    ∙ (λ j. or_later (line_fault limits.weight k row) (cond (not (e j) && has_too_many limits (after_row k row)) (Some TooMany) (cond (e j && nat_lt 0 (length (other_words row))) (Some HasDummy) None)))
 
 -- a line that declares dummies
 pub verdict-dummies : (limits : Limits) (k : Said) (names : Row) → is_unfinished k.marking ≡ false
@@ -44,12 +44,12 @@ verdict-dummies limits k names h =
     ∙ first_broken-append (line_rules limits.weight k (codes ".dummy" ∷ names)) ((false, TooMany) ∷ (has_dummy (codes ".dummy" ∷ names), HasDummy) ∷ [])
 
 -- a line that begins with .end
-pub end-row : (row : Row) → begins (codes ".end") row ≡ true → row ≡ codes ".end" ∷ after_first row
+pub end-row : (row : Row) → begins (codes ".end") row ≡ true → row ≡ codes ".end" ∷ other_words row
 end-row [] h = absurd (false≢true h)
 end-row (w ∷ ws) h = ap (λ v. v ∷ ws) ((bytes_eq-Decides w (codes ".end")).0 h)
 
 -- a line that begins with .dummy
-pub dummy-row : (row : Row) → begins (codes ".dummy") row ≡ true → row ≡ codes ".dummy" ∷ after_first row
+pub dummy-row : (row : Row) → begins (codes ".dummy") row ≡ true → row ≡ codes ".dummy" ∷ other_words row
 dummy-row [] h = absurd (false≢true h)
 dummy-row (w ∷ ws) h = ap (λ v. v ∷ ws) ((bytes_eq-Decides w (codes ".dummy")).0 h)
 
@@ -79,7 +79,7 @@ ends-inside k row h = ap (λ u. begins (codes ".end") row && not u) h ∙ and-fa
 
 pub too-said_up_to : (limits : Limits) (k : Said) (row : Row) → has_too_many limits (after_row k row) ≡ has_too_many limits (said_up_to k row)
 too-said_up_to limits k row = elim (cases_Bool (ends_text k row)) [
-  | inl h ↦ ap (λ r. has_too_many limits (after_row k r)) (end-row row (and_parts (begins (codes ".end") row) (not (is_unfinished k.marking)) h).0) ∙ after-end limits k (after_first row) ∙ sym (ap (has_too_many limits) (stop (ends_text k row) k (after_row k row) h))
+  | inl h ↦ ap (λ r. has_too_many limits (after_row k r)) (end-row row (and_parts (begins (codes ".end") row) (not (is_unfinished k.marking)) h).0) ∙ after-end limits k (other_words row) ∙ sym (ap (has_too_many limits) (stop (ends_text k row) k (after_row k row) h))
   | inr h ↦ sym (ap (has_too_many limits) (past (ends_text k row) k (after_row k row) h))
 ]
 

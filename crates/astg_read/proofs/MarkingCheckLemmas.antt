@@ -11,7 +11,8 @@ use Rattle.astg_read.specs.declared.marking_check.MarkingCheck.{MarkingCheck}
 use Rattle.astg_read.specs.inner.MarkingCheck.{IsSettled}
 use Rattle.astg_read.specs.inner.Views.{place_view, slices_view, entry_view}
 use Rattle.astg_read.proofs.EntryLemmas.{skipped, one-more}
-use Rattle.astg_read.proofs.CloseLemmas.{before-take, after-length}
+use Rattle.astg_lex.proofs.FirstLemmas.{before-missing, before-none, length-before, first-from}
+use Rattle.std.proofs.lemmas.List.Sums.{prefix_len-le-length}
 use Rattle.astg_read.specs.Rows.{Word, Row}
 use Rattle.astg_read.specs.Header.{Declared}
 use Rattle.astg_read.specs.Graphs.{PlaceAt}
@@ -68,34 +69,6 @@ entry-kept w ws more h = kept-by (opens_place w) w ws more h
 entry-whole : (w : Word) (ws : Row) → further_words (entry_at w ws) < length ws → is_whole (entry_at w ws) ≡ true
 entry-whole w ws h = whole-by (opens_place w) w ws refl h
 
--- without a } all words stand before it
-before-grown : (ws line : Row) → list_any is_closing ws ≡ false → before_close (ws ++ line) ≡ ws ++ before_close line
-before-grown [] line h = refl
-before-grown (w ∷ ws) line h =
-    let p = or_parts (is_closing w) (list_any is_closing ws) h in
-    ap (λ b. cond b [] (w ∷ before_close (ws ++ line))) p.0 ∙ ap (λ us. w ∷ us) (before-grown ws line p.1)
-
-before-open : (ws : Row) → list_any is_closing ws ≡ false → before_close ws ≡ ws
-before-open ws h = ap before_close (sym (append-nil ws)) ∙ before-grown ws [] h ∙ append-nil ws
-
--- as many words as there are before it
-pub before-length : (ws : Row) → length (before_close ws) ≡ close_length ws
-before-length [] = refl
-before-length (w ∷ ws) = elim (cases_Bool (is_closing w)) [
-  | inl k ↦ (λ j. length (cond (k j) [] (w ∷ before_close ws))) ∙ sym (ap (λ b. cond b 0 (suc (close_length ws))) k)
-  | inr k ↦ (λ j. length (cond (k j) [] (w ∷ before_close ws))) ∙ ap suc (before-length ws) ∙ sym (ap (λ b. cond b 0 (suc (close_length ws))) k)
-]
-
--- it is looked for after words that stand before it
-pub close-from : (n : ℕ) (ws : Row) → n ≤ close_length ws → n + close_length (drop n ws) ≡ close_length ws
-close-from zero ws h = omega (arith, ap close_length (drop-none ws))
-close-from (suc n) [] h = absurd (omega (arith, h))
-close-from (suc n) (w ∷ ws) h = elim (cases_Bool (is_closing w)) [
-  | inl k ↦ absurd (omega (arith, h, ap (λ b. cond b 0 (suc (close_length ws))) k))
-  | inr k ↦ let e = close-from n ws (omega (arith, h, ap (λ b. cond b 0 (suc (close_length ws))) k)) in
-      omega (arith, e, ap (λ b. cond b 0 (suc (close_length ws))) k)
-]
-
 -- the words after {
 abbrev rest_of : List (Bor (List ℕ)) → List (Bor (List ℕ))
 rest_of words = take (length words - 1) (drop 1 words)
@@ -105,18 +78,18 @@ rest-slices_view words = ap slices_view (take_all (length words - 1) (drop 1 wor
 
 pub before-slices_view : (words : List (Bor (List ℕ))) (n : ℕ) → n ≡ close_length (slices_view (rest_of words)) → slices_view (take n (rest_of words)) ≡ before_close (drop 1 (slices_view words))
 before-slices_view words n k =
-    sym (take-map (λ (w : Bor (List ℕ)). w.now) n (rest_of words)) ∙ ap (λ m. take m (slices_view (rest_of words))) k ∙ sym (before-take (slices_view (rest_of words))) ∙ ap before_close (rest-slices_view words)
+    sym (take-map (λ (w : Bor (List ℕ)). w.now) n (rest_of words)) ∙ ap (λ m. take m (slices_view (rest_of words))) k ∙ ap before_close (rest-slices_view words)
 
 pub within-close : (words : List (Bor (List ℕ))) (n : ℕ) → n ≤ length (before_close (drop 1 (slices_view words))) → n ≤ close_length (slices_view (rest_of words))
-within-close words n h = omega (arith, h, before-length (drop 1 (slices_view words)), ap close_length (rest-slices_view words))
+within-close words n h = omega (arith, h, length-before is_closing (drop 1 (slices_view words)), ap close_length (rest-slices_view words))
 
 pub within-rest : (words : List (Bor (List ℕ))) (n : ℕ) → n ≤ length (before_close (drop 1 (slices_view words))) → n ≤ length (rest_of words)
-within-rest words n h = omega (arith, within-close words n h, after-length (slices_view (rest_of words)), length-map (rest_of words) (λ (w : Bor (List ℕ)). w.now))
+within-rest words n h = omega (arith, within-close words n h, prefix_len-le-length (λ w. not (is_closing w)) (slices_view (rest_of words)), length-map (rest_of words) (λ (w : Bor (List ℕ)). w.now))
 
 -- the } is found behind the first words
 pub close-found : (n : ℕ) (words : List (Bor (List ℕ))) (k : ℕ) → n ≤ close_length (slices_view words) → k ≡ close_length (slices_view (take (length words - n) (drop n words))) → n + k ≡ close_length (slices_view words)
 close-found n words k h e =
-    omega (arith, e, ap close_length (ap slices_view (take_all (length words - n) (drop n words) (omega (arith, length-drop n words))) ∙ sym (drop-map (λ (w : Bor (List ℕ)). w.now) n words)), close-from n (slices_view words) h)
+    omega (arith, e, ap close_length (ap slices_view (take_all (length words - n) (drop n words) (omega (arith, length-drop n words))) ∙ sym (drop-map (λ (w : Bor (List ℕ)). w.now) n words)), first-from is_closing n (slices_view words) h)
 
 module _ (most : ℕ) (d : Declared) (places : List PlaceAt) where
   -- With any words behind them, these words are as wrong as those after the first ones, whose entries name these places.
@@ -199,8 +172,8 @@ module _ (most : ℕ) (d : Declared) (places : List PlaceAt) where
   settled-grown s [] line h settled = settled-longer s [] (before_close (drop 1 line)) settled
   settled-grown s (w ∷ ws) line h settled =
       let none : list_any is_closing ws ≡ false = (or_parts (is_closing w) (list_any is_closing ws) h).1 in
-      subst (IsSettled most d places s) (sym (ap before_close (drop-none (ws ++ line)) ∙ before-grown ws line none))
-      (settled-longer s ws (before_close line) (subst (IsSettled most d places s) (ap before_close (drop-none ws) ∙ before-open ws none) settled))
+      subst (IsSettled most d places s) (sym (ap before_close (drop-none (ws ++ line)) ∙ before-missing is_closing ws line none))
+      (settled-longer s ws (before_close line) (subst (IsSettled most d places s) (ap before_close (drop-none ws) ∙ before-none is_closing ws none) settled))
 
   module _ (words : List (Bor (List ℕ))) (s : MarkingCheck) (h : IsSettled most d places s (slices_view words)) where
     -- the words that aren't settled

@@ -1,5 +1,5 @@
 -- The targets of words, one after the other.
-use Rattle.std.proofs.Common.{◌≡◌, ◌<◌, ℕ, zero, suc, List, [], ◌∷◌, ◌++◌, cond, inl, inr, drop, take, length, map, refl, sym, ap, ◌∙◌, arith, ◌-◌, take_all, length-drop, append_assoc}
+use Rattle.std.proofs.Common.{◌≡◌, ◌<◌, ℕ, zero, suc, List, [], ◌∷◌, ◌++◌, cond, inl, inr, filter_map, Option, None, Some, option_map, drop, take, length, map, refl, sym, ap, ◌∙◌, arith, ◌-◌, take_all, length-drop, append_assoc}
 use Rattle.astg_lex.proofs.ListLemmas.{passed-over}
 use Rattle.std.proofs.lemmas.Bool.{cases_Bool}
 use Rattle.std.proofs.lemmas.List.{map-append, length-map, drop-map}
@@ -7,7 +7,9 @@ use Rattle.astg_lex.specs.declared.words.Word.{Word}
 use Rattle.astg_read.specs.declared.targets.Target.{Target as ReadTarget}
 use Rattle.astg_read.specs.inner.Views.{texts, target_view}
 use Rattle.astg_read.specs.Rows.{Row}
-use Rattle.astg_read.specs.Targets.{target_at, targets_after, group_at, opens_group}
+use Rattle.astg_read.specs.Targets.{target_at, targets_after, group_at, opens_group, words_in}
+use Rattle.std.specs.Borrow.{Bor}
+use Rattle.std.specs.List.{cons_option}
 use Rattle.astg_read.specs.inner.Fronts.{target_words, front_target}
 
 -- words that are passed over
@@ -46,3 +48,17 @@ targets-preserved old new t rest n pushed views count some =
     ∙ append_assoc (map target_view old) (target_view t ∷ []) (targets_after zero (drop (target_words (texts rest)) (texts rest)))
     ∙ ap (λ f. map target_view old ++ f ∷ targets_after zero (drop (target_words (texts rest)) (texts rest))) views
     ∙ ap (λ ts. map target_view old ++ ts) (sym front)
+
+-- the words of targets that have one
+abbrev pub given_words : List ReadTarget → List (Bor (List ℕ))
+given_words ts = filter_map (λ (t : ReadTarget). t.word) ts
+
+-- they are the words of the targets as specs see them
+pub words_in-views : (ts : List ReadTarget) → words_in (map target_view ts) ≡ map (λ (w : Bor (List ℕ)). w.now) (given_words ts)
+words_in-views [] = refl
+words_in-views (t ∷ ts) = by t.word (words_in-views ts)
+  where
+    by : (o : Option (Bor (List ℕ))) → words_in (map target_view ts) ≡ map (λ (w : Bor (List ℕ)). w.now) (given_words ts)
+        → cons_option (option_map (λ (w : Bor (List ℕ)). w.now) o) (words_in (map target_view ts)) ≡ map (λ (w : Bor (List ℕ)). w.now) (cons_option o (given_words ts))
+    by None e = e
+    by (Some w) e = ap (λ ws. w.now ∷ ws) e

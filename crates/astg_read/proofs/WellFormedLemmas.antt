@@ -9,7 +9,7 @@ use Rattle.stg_net.specs.declared.signal.Kind.TheVariants.{Input, Output, Intern
 use Rattle.stg_net.specs.declared.trans.TransName.{TransName}
 use Rattle.stg_net.specs.Names.{is_name}
 use Rattle.astg_read.specs.declared.rule.Rule.TheVariants.{UnknownDirective, OutOfOrder, BadName, DeclaredTwice, UnknownSignal, NoEdge, BadArc, RepeatedArc, BadWeight}
-use Rattle.astg_read.specs.Rows.{Word, Row, begins, after_first, declares, is_graph_row}
+use Rattle.astg_read.specs.Rows.{Word, Row, begins, other_words, declares, is_graph_row}
 use Rattle.astg_read.specs.Header.{same_name, signals_of, signals_on}
 use Rattle.astg_read.specs.Lists.{has_repeat, firsts}
 use Rattle.astg_read.specs.Nodes.{is_node, node_of, same_trans}
@@ -77,7 +77,7 @@ module _ (most : ℕ) (k : Said) (row : Row) (none : line_fault most k row ≡ N
 -- a line of the header
 well_formed-header : (most : ℕ) (k : Said) (row : Row) → line_fault most k row ≡ None → IsWellFormed most k → IsWellFormed most (record k { declared = with_names k.declared row })
 well_formed-header most k row none s =
-    let ns = after_first row in
+    let ns = other_words row in
     let n = (or_parts ((declares row && not (list_all is_name ns)) || (begins (codes ".graph") row && nat_lt 0 (length ns))) (is_graph_row row && not (list_all (is_node k.declared) (node_words row))) (names most k row none).0).0 in
     let m = (or_parts (declares row && not (list_all is_name ns)) (begins (codes ".graph") row && nat_lt 0 (length ns)) n).0 in
     record {
@@ -128,13 +128,13 @@ well_formed-begun : (most : ℕ) (k : Said) (b : Bool) → IsWellFormed most k �
 well_formed-begun most k b s = record { named = s.named; names_differ = s.names_differ; trans_differ = s.trans_differ; trans_there = s.trans_there; places_there = s.places_there; weighed = s.weighed; text_arcs_there = s.text_arcs_there; text_arcs_differ = s.text_arcs_differ }
 
 well_formed-in_graph : (most : ℕ) (k : Said) (row : Row) → line_fault most k row ≡ None → IsWellFormed most k → (a b : Bool) → begins (codes ".marking") row ≡ a → is_graph_row row ≡ b → IsWellFormed most (in_graph k row)
-well_formed-in_graph most k row none s true b e f = subst (λ (x : Bool). IsWellFormed most (cond x (record k { marking = Some (after_first row) }) (cond (is_graph_row row) (with_graph_row k row) k))) (sym e) (well_formed-marking most k (Some (after_first row)) s)
+well_formed-in_graph most k row none s true b e f = subst (λ (x : Bool). IsWellFormed most (cond x (record k { marking = Some (other_words row) }) (cond (is_graph_row row) (with_graph_row k row) k))) (sym e) (well_formed-marking most k (Some (other_words row)) s)
 well_formed-in_graph most k row none s false false e f =
-    subst (λ (x : Bool). IsWellFormed most (cond x (record k { marking = Some (after_first row) }) (cond (is_graph_row row) (with_graph_row k row) k))) (sym e)
+    subst (λ (x : Bool). IsWellFormed most (cond x (record k { marking = Some (other_words row) }) (cond (is_graph_row row) (with_graph_row k row) k))) (sym e)
     (subst (λ (x : Bool). IsWellFormed most (cond x (with_graph_row k row) k)) (sym f) s)
 well_formed-in_graph most k [] none s false true e f = absurd (true≢false (sym f))
 well_formed-in_graph most k (w ∷ ws) none s false true e f =
-    subst (λ (x : Bool). IsWellFormed most (cond x (record k { marking = Some (after_first (w ∷ ws)) }) (cond (is_graph_row (w ∷ ws)) (with_graph_row k (w ∷ ws)) k))) (sym e)
+    subst (λ (x : Bool). IsWellFormed most (cond x (record k { marking = Some (other_words (w ∷ ws)) }) (cond (is_graph_row (w ∷ ws)) (with_graph_row k (w ∷ ws)) k))) (sym e)
     (subst (λ (x : Bool). IsWellFormed most (cond x (with_graph_row k (w ∷ ws)) k)) (sym f) (well_formed-graph most k w ws f none s))
 
 -- a line outside a marking

@@ -4,7 +4,7 @@ use Rattle.std.specs.List.{list_any}
 use Rattle.stg_net.specs.declared.signal.Kind.{Kind}
 use Rattle.stg_net.specs.declared.signal.Kind.TheVariants.{Input, Output, Internal}
 use Rattle.stg_net.specs.declared.signal.Signal.{Signal}
-use Rattle.astg_read.specs.Rows.{Word, Row, begins, after_first, header_rows}
+use Rattle.astg_read.specs.Rows.{Word, Row, begins, other_words, header_rows}
 
 -- The signals in order of declaration, and the names of those that are dummies.
 pub record Declared : Type 0 where
@@ -18,15 +18,15 @@ signals_of kind names = map (λ name. record { name = name; kind = kind }) names
 -- the signals that a line declares; a dummy counts as an internal one
 abbrev pub signals_on : Row → List Signal
 signals_on row =
-    if begins (codes ".inputs") row then signals_of Input (after_first row)
-    else if begins (codes ".outputs") row then signals_of Output (after_first row)
-    else if begins (codes ".internal") row then signals_of Internal (after_first row)
-    else if begins (codes ".dummy") row then signals_of Internal (after_first row)
+    if begins (codes ".inputs") row then signals_of Input (other_words row)
+    else if begins (codes ".outputs") row then signals_of Output (other_words row)
+    else if begins (codes ".internal") row then signals_of Internal (other_words row)
+    else if begins (codes ".dummy") row then signals_of Internal (other_words row)
     else []
 
 -- the dummies that a line declares
 abbrev pub dummies_on : Row → Row
-dummies_on row = if begins (codes ".dummy") row then after_first row else []
+dummies_on row = if begins (codes ".dummy") row then other_words row else []
 
 -- what the lines declare before .graph
 abbrev pub declared_in : List Row → Declared

@@ -1,6 +1,6 @@
 -- The words of a marking, which may not be all there yet.
 use Rattle.std.specs.Prelude.{ℕ, zero, suc, Bool, true, false, not, ◌&&◌, ◌||◌, ◌+◌, nat_lt, nat_eq, List, [], ◌∷◌, length, take, drop, bytes_eq, codes, Option, None, Some, is_some, unwrap_or, if◌then◌else◌}
-use Rattle.std.specs.List.{list_any}
+use Rattle.std.specs.List.{list_any, before_first, after_first}
 use Rattle.std.specs.Option.{option_map_or}
 use Rattle.stg_net.specs.Names.{is_name}
 use Rattle.stg_net.specs.declared.trans.TransName.{TransName}
@@ -67,13 +67,11 @@ entries_after (suc n) (w ∷ ws) = entries_after n ws
 
 -- the words before the first }
 abbrev pub before_close : Row → Row
-before_close [] = []
-before_close (w ∷ ws) = if is_closing w then [] else w ∷ before_close ws
+before_close words = before_first is_closing words
 
 -- the words after the first }
 abbrev pub after_close : Row → Row
-after_close [] = []
-after_close (w ∷ ws) = if is_closing w then ws else after_close ws
+after_close words = after_first is_closing words
 
 -- the entries between { and }
 abbrev pub entries_of : Row → List Entry

@@ -1,6 +1,6 @@
 -- The rows of a text, which are the words of its lines, and what kind of line each is.
 use Rattle.std.specs.Prelude.{ℕ, Bool, false, not, ◌||◌, ◌==◌, List, [], ◌∷◌, ◌++◌, flat_map, filter, codes, bytes_eq, if◌then◌else◌, Option, None, Some}
-use Rattle.std.specs.List.{list_any}
+use Rattle.std.specs.List.{list_any, before_first, after_first}
 
 -- a byte or a run of bytes that stands by itself
 abbrev pub Word : Type 0
@@ -16,9 +16,9 @@ begins word [] = false
 begins word (w ∷ ws) = bytes_eq w word
 
 -- the row's words after the first
-abbrev pub after_first : Row → Row
-after_first [] = []
-after_first (w ∷ ws) = ws
+abbrev pub other_words : Row → Row
+other_words [] = []
+other_words (w ∷ ws) = ws
 
 -- the line declares names
 abbrev pub declares : Row → Bool
@@ -51,25 +51,21 @@ has_graph rows = list_any (begins (codes ".graph")) rows
 
 -- the lines before .graph
 abbrev pub header_rows : List Row → List Row
-header_rows [] = []
-header_rows (row ∷ rows) = if begins (codes ".graph") row then [] else row ∷ header_rows rows
+header_rows rows = before_first (begins (codes ".graph")) rows
 
 -- the lines after .graph
 abbrev pub rows_after_graph : List Row → List Row
-rows_after_graph [] = []
-rows_after_graph (row ∷ rows) = if begins (codes ".graph") row then rows else rows_after_graph rows
+rows_after_graph rows = after_first (begins (codes ".graph")) rows
 
 -- the lines before .marking
 abbrev pub before_marking : List Row → List Row
-before_marking [] = []
-before_marking (row ∷ rows) =
-    if begins (codes ".marking") row then [] else row ∷ before_marking rows
+before_marking rows = before_first (begins (codes ".marking")) rows
 
 -- the words after .marking, over all lines from there on
 abbrev pub words_of_marking : List Row → Option Row
 words_of_marking [] = None
 words_of_marking (row ∷ rows) =
-    if begins (codes ".marking") row then Some (after_first row ++ flat_map (λ r. r) rows)
+    if begins (codes ".marking") row then Some (other_words row ++ flat_map (λ r. r) rows)
     else words_of_marking rows
 
 -- the lines of the graph

@@ -8,7 +8,7 @@ use Rattle.astg_lex.specs.Words.{words_of}
 use Rattle.astg_read.specs.declared.rule.Rule.{Rule}
 use Rattle.astg_read.specs.declared.rule.Rule.TheVariants.{BadByte, UnknownDirective, OutOfOrder, BadName, DeclaredTwice, UnknownSignal, NoEdge, BadArc, RepeatedArc, BadWeight, BadMarking, NoGraph, TooMany, HasDummy}
 use Rattle.astg_read.specs.Lists.{has_repeat}
-use Rattle.astg_read.specs.Rows.{Row, begins, after_first, declares, is_header, is_directive, is_graph_row}
+use Rattle.astg_read.specs.Rows.{Row, begins, other_words, declares, is_header, is_directive, is_graph_row}
 use Rattle.astg_read.specs.Header.{signals_on, same_name}
 use Rattle.astg_read.specs.Nodes.{is_node, is_unknown, is_signal}
 use Rattle.astg_read.specs.Targets.{targets_of, node_words, is_good_group}
@@ -33,8 +33,8 @@ breaks_order k row =
 -- a declared word that is no name, a word after .graph, or a source or target that is no node
 abbrev pub breaks_names : Said → Row → Bool
 breaks_names k row =
-    (declares row && not (list_all is_name (after_first row)))
-    || (begins (codes ".graph") row && nat_lt 0 (length (after_first row)))
+    (declares row && not (list_all is_name (other_words row)))
+    || (begins (codes ".graph") row && nat_lt 0 (length (other_words row)))
     || (is_graph_row row && not (list_all (is_node k.declared) (node_words row)))
 
 -- a declared name that was declared before
@@ -68,7 +68,7 @@ has_bad_weight most k row =
 
 -- the words of the marking, with those of this line
 abbrev pub marking_with : Said → Row → Row
-marking_with k row = if is_some k.marking then unwrap_or k.marking [] ++ row else after_first row
+marking_with k row = if is_some k.marking then unwrap_or k.marking [] ++ row else other_words row
 
 -- the marking is wrong as far as it goes, this line included
 abbrev pub breaks_marking : ℕ → Said → Row → Bool
@@ -88,7 +88,7 @@ ends_text k row = begins (codes ".end") row && not (is_unfinished k.marking)
 
 -- the line declares a dummy
 abbrev pub has_dummy : Row → Bool
-has_dummy row = begins (codes ".dummy") row && nat_lt 0 (length (after_first row))
+has_dummy row = begins (codes ".dummy") row && nat_lt 0 (length (other_words row))
 
 -- the rules that a line outside a marking can break by what it says, in order
 abbrev pub line_rules : ℕ → Said → Row → List (Bool × Rule)

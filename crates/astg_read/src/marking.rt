@@ -36,12 +36,7 @@ fn close_length(words: &[&[u8]]) -> usize
     ensures value { result ≡ close_length (slices_view words.now) }
     ensures most { result ≤ length words.now }
 {
-    for (i, word) in words.iter().enumerate() {
-        if is_closing(word) {
-            return i;
-        }
-    }
-    words.len()
+    words.iter().take_while(|word| !is_closing(**word)).count()
 }
 
 /// The same, where none of the first words is one.

@@ -102,12 +102,7 @@ impl<'a> Signals<'a> {
 pub fn are_names(words: &[Word<'_>]) -> bool
     ensures { result ≡ list_all forms.is_name (texts words.now) }
 {
-    for word in words {
-        if !is_name(word.text) {
-            return false;
-        }
-    }
-    true
+    words.iter().all(|word| is_name(word.text))
 }
 
 /// Adds signals until a name stands again, and tells whether all are new.

@@ -86,14 +86,10 @@ pub fn are_nodes(targets: &[Target<'_, '_>]) -> bool
     ensures { result
         ≡ list_all (nodes.is_node (without_dummies [])) (words_in (target_views targets.now)) }
 {
-    for target in targets {
-        if let Some(word) = target.word {
-            if !is_node(word) {
-                return false;
-            }
-        }
-    }
-    true
+    targets
+        .iter()
+        .filter_map(|t| t.word)
+        .all(|word| is_node(word))
 }
 
 /// Whether a target has the form of a transition but stands for none.
@@ -103,14 +99,10 @@ pub fn have_unknown(signals: &Signals<'_>, targets: &[Target<'_, '_>]) -> bool
         ≡ list_any (nodes.is_unknown (without_dummies signals.now))
         (words_in (target_views targets.now)) }
 {
-    for target in targets {
-        if let Some(word) = target.word {
-            if is_unknown(signals, word) {
-                return true;
-            }
-        }
-    }
-    false
+    targets
+        .iter()
+        .filter_map(|t| t.word)
+        .any(|word| is_unknown(signals, word))
 }
 
 /// Whether a target is the name of a signal.
@@ -120,14 +112,10 @@ pub fn have_signal(signals: &Signals<'_>, targets: &[Target<'_, '_>]) -> bool
         ≡ list_any (nodes.is_signal (without_dummies signals.now))
         (words_in (target_views targets.now)) }
 {
-    for target in targets {
-        if let Some(word) = target.word {
-            if is_signal(signals, word) {
-                return true;
-            }
-        }
-    }
-    false
+    targets
+        .iter()
+        .filter_map(|t| t.word)
+        .any(|word| is_signal(signals, word))
 }
 
 /// The number in a weight group.
@@ -162,10 +150,5 @@ fn is_good_group(most: u32, target: &Target<'_, '_>) -> bool
 pub fn are_weighed(most: u32, targets: &[Target<'_, '_>]) -> bool
     ensures { result ≡ list_all (forms.is_good_group most) (target_views targets.now) }
 {
-    for target in targets {
-        if !is_good_group(most, target) {
-            return false;
-        }
-    }
-    true
+    targets.iter().all(|target| is_good_group(most, target))
 }

@@ -73,22 +73,12 @@ fn weighs_trans(text_arc: &TextArc<'_>) -> bool
 pub fn any_between_places(text_arcs: &[TextArc<'_>]) -> bool
     ensures { result ≡ list_any graphs.is_between_places (text_arc_views text_arcs.now) }
 {
-    for text_arc in text_arcs {
-        if is_between_places(text_arc) {
-            return true;
-        }
-    }
-    false
+    text_arcs.iter().any(|text_arc| is_between_places(text_arc))
 }
 
 /// Whether an arc between two transitions has a weight.
 pub fn any_weighs_trans(text_arcs: &[TextArc<'_>]) -> bool
     ensures { result ≡ list_any graphs.weighs_trans (text_arc_views text_arcs.now) }
 {
-    for text_arc in text_arcs {
-        if weighs_trans(text_arc) {
-            return true;
-        }
-    }
-    false
+    text_arcs.iter().any(|text_arc| weighs_trans(text_arc))
 }

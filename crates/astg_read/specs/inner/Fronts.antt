@@ -1,5 +1,6 @@
 -- The target or the entry in front, and how many words stand before the end.
 use Rattle.std.specs.Prelude.{[], ◌∷◌, ℕ, suc, if◌then◌else◌, None, length, take}
+use Rattle.std.specs.List.{position_or_len}
 use Rattle.astg_read.specs.Rows.{Row}
 use Rattle.astg_read.specs.Markings.{Entry, entry_at, is_closing}
 use Rattle.astg_read.specs.Targets.{Target, target_at, opens_group, group_at}
@@ -11,8 +12,7 @@ front_entry (w ∷ ws) = entry_at w ws
 
 -- how many words stand before the first }
 abbrev pub close_length : Row → ℕ
-close_length [] = 0
-close_length (w ∷ ws) = if is_closing w then 0 else suc (close_length ws)
+close_length words = position_or_len is_closing words
 
 -- the target in front
 abbrev pub front_target : Row → Target

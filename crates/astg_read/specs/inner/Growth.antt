@@ -1,7 +1,7 @@
 -- What a further line says, beside what the lines before it say.
 use Rattle.std.specs.Prelude.{true, List, [], flat_map, ◌++◌, codes, Option, None, Some, if◌then◌else◌}
 use Rattle.stg_net.specs.declared.trans.TransName.{TransName}
-use Rattle.astg_read.specs.Rows.{Row, begins, after_first, is_graph_row}
+use Rattle.astg_read.specs.Rows.{Row, begins, other_words, is_graph_row}
 use Rattle.astg_read.specs.Lists.{firsts}
 use Rattle.astg_read.specs.Header.{Declared, signals_on, dummies_on}
 use Rattle.astg_read.specs.Nodes.{Node, same_trans}
@@ -36,7 +36,7 @@ with_graph_row k row = record k {
 -- a line after .graph and before or at .marking
 abbrev pub in_graph : Said → Row → Said
 in_graph k row =
-    if begins (codes ".marking") row then record k { marking = Some (after_first row) }
+    if begins (codes ".marking") row then record k { marking = Some (other_words row) }
     else if is_graph_row row then with_graph_row k row else k
 
 -- a line after .graph
