@@ -13,16 +13,12 @@ use Rattle.std.specs.Prelude.{codes, decimal}
 use Rattle.stg_net.specs.declared.signal.Signal.{Signal}
 use Rattle.stg_net.specs.Names.{is_digit, is_in_name, is_name}
 use Rattle.astg_write.specs.PlaceNames.{prefix_text, begins_with, is_free, prefix_number, place_prefix, numbered_name}
-use Rattle.astg_write.proofs.WrittenWords.{all-append}
+use Rattle.astg_lex.proofs.ListLemmas.{all-append, drop-none}
 use Rattle.astg_write.proofs.WordForms.{decimal-digits, digit-in_name, all-weaker}
 use Rattle.astg_write.proofs.NodeForms.{take-front}
 
 abbrev begins : ℕ → Signal → Bool
 begins k s = begins_with (prefix_text k) s
-
-drop-nothing : (xs : List ℕ) → drop 0 xs ≡ xs
-drop-nothing [] = refl
-drop-nothing (x ∷ xs) = refl
 
 -- the digits after the p are the prefix's number
 digits-after : (k : ℕ) (s : Signal) → 1 ≤ k → k < 2 ^ 64 → begins k s ≡ true → take_while is_digit (drop 1 s.name) ≡ decimal k
@@ -31,7 +27,7 @@ digits-after k s some small h =
     let e : s.name ≡ prefix_text k ++ rest = (starts_is Decides-eqb s.name (prefix_text k) (begins k s) refl).0 h in
     let t : prefix_text k ≡ codes "p" ++ decimal k ++ codes "_" = ap (λ b. cond b (codes "p") (codes "p" ++ decimal k ++ codes "_")) (ne_eqb k 0 (λ z. absurd (omega (arith, z, some)))) in
     ap (λ w. take_while is_digit (drop 1 w)) (e ∙ ap (λ p. p ++ rest) t)
-    ∙ ap (take_while is_digit) (drop-nothing ((decimal k ++ codes "_") ++ rest) ∙ append_assoc (decimal k) (codes "_") rest)
+    ∙ ap (take_while is_digit) (drop-none ((decimal k ++ codes "_") ++ rest) ∙ append_assoc (decimal k) (codes "_") rest)
     ∙ take-front is_digit (decimal k) 95 rest (decimal-digits k small) refl
 
 -- a name begins with one numbered prefix at most

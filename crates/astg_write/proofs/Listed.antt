@@ -1,11 +1,10 @@
 -- What is listed for each number below a bound, and what appears first.
-use Rattle.std.proofs.Common.{◌≡◌, ◌+◌, ◌<◌, ◌≤◌, ℕ, zero, suc, List, [], ◌∷◌, ◌++◌, Bool, true, false, cond, length, map, take, get_or, refl, sym, ap, ◌∙◌, arith, inl, inr, Some, None, position, All, AllPairs, append_assoc, append-nil, length-append, nat_lt}
-use Rattle.std.proofs.lemmas.Bool.{or_from, or_right, or_left, cases_eq, lt-ltb}
-use Rattle.std.proofs.lemmas.List.{take_more, get_or_append_left, get_or_at, length-map}
+use Rattle.std.proofs.Common.{◌≡◌, ◌+◌, ◌<◌, ◌≤◌, ℕ, zero, suc, List, [], ◌∷◌, ◌++◌, Bool, true, false, length, map, take, get_or, refl, sym, ap, ◌∙◌, arith, inl, inr, All, AllPairs, append_assoc, append-nil, length-append}
+use Rattle.std.proofs.lemmas.Bool.{or_from, or_right, or_left, cases_eq}
+use Rattle.std.proofs.lemmas.List.{take_more, length-map}
 use Rattle.std.proofs.lemmas.List.Elements.{All-head, All-tail}
 use Rattle.std.proofs.lemmas.List.Folds.{list_any-append}
-use Rattle.std.proofs.lemmas.List.Sums.{position_or_len_is}
-use Rattle.std.specs.List.{list_any, position_or_len}
+use Rattle.std.specs.List.{list_any}
 use Rattle.stg_net.specs.Ordered.{listed_below}
 use Rattle.astg_read.specs.Lists.{has_repeat}
 
@@ -32,10 +31,6 @@ any-listed f g (suc n) k b h = elim (cases_eq k n) [
   | inr d ↦ any-append_left f (listed_below (λ k. g k ∷ []) n) (g n ∷ []) (any-listed f g n k (omega (arith, b, d)) h)
 ]
 
-pub length-listed : {X : Type 0} (g : ℕ → X) (n : ℕ) → length (listed_below (λ k. g k ∷ []) n) ≡ n
-length-listed g zero = refl
-length-listed g (suc n) = let e = length-append (listed_below (λ k. g k ∷ []) n) (g n ∷ []) in omega (arith, e, length-listed g n)
-
 -- fewer numbers list no more
 pub length-listed-le : {X : Type 0} (f : ℕ → List X) (m n : ℕ) → m ≤ n → length (listed_below f m) ≤ length (listed_below f n)
 length-listed-le f m zero h = let e : m ≡ zero = omega (arith, h) in omega (arith, ap (λ k. length (listed_below f k)) e)
@@ -58,22 +53,6 @@ listed-all [] d zero h = refl
 listed-all (x ∷ xs) d zero h = refl
 listed-all xs d (suc n) h =
     ap (λ l. l ++ get_or xs n d ∷ []) (listed-all xs d n (omega (arith, h))) ∙ sym (take_more xs n d (omega (arith, h))) ∙ (let e : n + 1 ≡ suc n = omega arith in ap (λ k. take k xs) e)
-
-pub get-listed : {X : Type 0} (g : ℕ → X) (n k : ℕ) (d : X) → k < n → get_or (listed_below (λ i. g i ∷ []) n) k d ≡ g k
-get-listed g zero k d b = absurd (omega (arith, b))
-get-listed g (suc n) k d b = elim (cases_eq k n) [
-  | inl e ↦ get_or_at (listed_below (λ i. g i ∷ []) n) (g n) [] d k (omega (arith, length-listed g n, e)) ∙ ap g (sym e)
-  | inr a ↦ get_or_append_left (listed_below (λ i. g i ∷ []) n) (g n ∷ []) d k (omega (arith, length-listed g n, b, a)) ∙ get-listed g n k d (omega (arith, b, a))
-]
-
--- one that is listed stands at its number
-pub position-listed : {X : Type 0} (f : X → Bool) (g : ℕ → X) (n k : ℕ) → k < n → f (g k) ≡ true → ((j : ℕ) → j < k → f (g j) ≡ false) → position f (listed_below (λ i. g i ∷ []) n) ≡ Some k
-position-listed f g n k b h before =
-    let xs = listed_below (λ i. g i ∷ []) n in
-    let long = length-listed g n in
-    let at : position_or_len f xs ≡ k = position_or_len_is f xs k (g 0) (omega (arith, long, b))
-    (λ j jb. ap f (get-listed g n j (g 0) (omega (arith, jb, b))) ∙ before j jb) (λ _. ap f (get-listed g n k (g 0) b) ∙ h) in
-    ap (λ m. cond (nat_lt m (length xs)) (Some m) None) at ∙ ap (λ t. cond t (Some k) None) (lt-ltb k (length xs) (omega (arith, long, b)))
 
 -- the rest of what is listed
 pub listed-add : {X : Type 0} (f : ℕ → List X) (m n : ℕ) → listed_below f (m + n) ≡ listed_below f m ++ listed_below (λ k. f (m + k)) n

@@ -1,27 +1,17 @@
 -- The arcs of a place stand together, and what is written of the place needs no other arcs.
-use Rattle.std.proofs.Common.{◌≡◌, ◌≢◌, ◌+◌, ◌-◌, ◌<◌, ◌≤◌, ◌==◌, ◌&&◌, ◌||◌, ℕ, List, [], ◌∷◌, ◌++◌, Bool, true, false, cond, not, length, take, drop, get_or, refl, sym, ap, subst, ◌∙◌, arith, inl, inr, All, AllPairs, append_assoc, append-nil}
-use Rattle.std.proofs.lemmas.Bool.{and_right, cases_lt, cases_eq, ne_eqb}
+use Rattle.std.proofs.Common.{◌≡◌, ◌≢◌, ◌+◌, ◌-◌, ◌<◌, ◌≤◌, ◌==◌, ◌&&◌, ◌||◌, ℕ, List, [], ◌∷◌, ◌++◌, Bool, true, false, cond, not, length, take, drop, get_or, refl, sym, ap, subst, ◌∙◌, arith, inl, inr, All, append_assoc, append-nil}
+use Rattle.std.proofs.Math.Bool.{or-false}
+use Rattle.std.proofs.lemmas.Bool.{and_right, cases_lt, ne_eqb}
 use Rattle.std.proofs.lemmas.List.{take-append-drop, drop-drop, get_or-take, get_or-drop, length-take-le, length-drop}
 use Rattle.std.proofs.lemmas.List.Elements.{All-head, All-tail}
 use Rattle.std.proofs.lemmas.List.Folds.{list_any-append, list_any_none}
 use Rattle.std.specs.List.{list_any}
-use Rattle.std.specs.List.Sorted.{IsPartitionPoint, IsNonDecreasingBy}
+use Rattle.std.specs.List.Sorted.{IsPartitionPoint}
 use Rattle.std.specs.Prelude.{codes}
 use Rattle.stg_net.specs.declared.arc.NetArc.{NetArc}
-use Rattle.stg_net.specs.Net.{NetLists, IsBefore}
+use Rattle.stg_net.specs.Net.{NetLists}
 use Rattle.stg_net.specs.Words.{trans_word}
 use Rattle.astg_write.specs.ComponentText.{goes_into, goes_out_of, weight_group, takers_of, is_only_given}
-
--- the places of arcs in order ascend
-pub places_rise : (xs : List NetArc) → AllPairs IsBefore xs → IsNonDecreasingBy (λ (a : NetArc). a.place) xs
-places_rise xs ordered i j d le below = elim (cases_eq i j) [
-  | inl same ↦ omega (arith, ap (λ k. (get_or xs k d).place) same)
-  | inr differ ↦ elim (ordered i j d (omega (arith, le, differ)) below) [ inl l ↦ omega (arith, l) | inr e ↦ omega (arith, e.0) ]
-]
-
-or-none : (b : Bool) → (b || false) ≡ b
-or-none true = refl
-or-none false = refl
 
 pub later : (a b c r s t : List ℕ) → t ≡ r ++ s → a ++ b ++ c ++ t ≡ (a ++ b ++ c ++ r) ++ s
 later a b c r s t e = rw e (simp append_assoc)
@@ -65,7 +55,7 @@ module _ (p : ℕ) (xs ys zs : List NetArc) (before : All (λ (a : NetArc). a.pl
       ∙ ap (λ b. b || list_any f (ys ++ zs)) (list_any_none f xs h)
       ∙ list_any-append f ys zs
       ∙ ap (λ b. list_any f ys || b) (list_any_none f zs k)
-      ∙ or-none (list_any f ys)
+      ∙ or-false (list_any f ys)
 
   only-middle : is_only_given (xs ++ (ys ++ zs)) p ≡ is_only_given ys p
   only-middle =

@@ -30,7 +30,8 @@ use Rattle.astg_write.specs.ComponentText.{comes_from, goes_out_of}
 use Rattle.astg_write.proofs.WrittenRows.{entry_words, marking_row, header_rows, graph_rows, model_row, trans_row, place_rows}
 use Rattle.astg_write.proofs.TakenRows.{Takes, Takes-append, Takes-one, verdict-good}
 use Rattle.astg_write.proofs.TakenGraphRows.{given_weight}
-use Rattle.astg_write.proofs.Listed.{any-append_right, any-append_left, any-listed, get-listed, length-listed, position-listed, listed-all, listed-agree}
+use Rattle.stg_net.proofs.Listed.{get-listed, length-listed, position-listed}
+use Rattle.astg_write.proofs.Listed.{any-append_right, any-append_left, any-listed, listed-all, listed-agree}
 use Rattle.astg_write.proofs.Appearing.{cut-most, cut-first}
 use Rattle.astg_write.proofs.WrittenArcs.{arcs_given, arcs_taken, written-arcs, AllPairs-filter, AllPairs-with}
 use Rattle.astg_write.proofs.Readable.{IsReadable, trans_at, trans-apart}
@@ -208,12 +209,12 @@ module _ (prefix : List ℕ) (n : NetLists) (r : IsReadable prefix n) where
 
   place-number : (p : ℕ) → p < most_places → place_number all_places (named prefix n r p) ≡ p
   place-number p b = ap (λ o. unwrap_or o 0)
-      (position-listed (same_place (named prefix n r p)) (named prefix n r) (reached prefix n r most_places) p (omega (arith, b, reached-all)) (place-same prefix n r p b)
+      (position-listed (named prefix n r) (same_place (named prefix n r p)) (reached prefix n r most_places) p (omega (arith, b, reached-all)) (place-same prefix n r p b)
       (λ j l. place-apart prefix n r p j b (omega (arith, l, b)) (λ e. absurd (omega (arith, e, l)))))
 
   trans-number : (t : ℕ) → t < length n.trans → trans_number all_trans (trans_at n t) ≡ t
   trans-number t b = ap (λ o. unwrap_or o 0)
-      (position-listed (same_trans (trans_at n t)) (trans_at n) (length n.trans) t b (same_trans-refl (trans_at n t))
+      (position-listed (trans_at n) (same_trans (trans_at n t)) (length n.trans) t b (same_trans-refl (trans_at n t))
       (λ j l. trans-apart prefix n r t j b (omega (arith, l, b)) (λ e. absurd (omega (arith, e, l)))))
 
   abbrev IsGiven : ℕ → NetArc → Type 0

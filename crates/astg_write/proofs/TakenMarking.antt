@@ -1,6 +1,6 @@
 -- The row of the marking breaks no rule, and says each place's tokens.
 use Rattle.std.proofs.Common.{◌≡◌, ◌+◌, ◌<◌, ◌≤◌, ◌==◌, ◌&&◌, ◌||◌, nat_eq, nat_lt, nat_le, ℕ, zero, suc, List, [], ◌∷◌, ◌++◌, Bool, true, false, cond, not, length, map, filter, flat_map, take, drop, get_or, refl, sym, ap, ◌∙◌, arith, inl, inr, All, AllPairs, Some, None, append-nil, unwrap_or, is_some}
-use Rattle.std.proofs.lemmas.Bool.{and_parts, and_from, or_parts, or_from, and_right, eq-eqb, cases_Bool, cases_eq, le-ltb, leb-true, ne_eqb}
+use Rattle.std.proofs.lemmas.Bool.{and_parts, and_from, or_from, and_right, eq-eqb, cases_Bool, cases_eq, le-ltb, leb-true, ne_eqb}
 use Rattle.std.proofs.lemmas.List.Elements.{All-head, All-tail, filter-append}
 use Rattle.std.proofs.lemmas.List.Concat.{flat_map-append}
 use Rattle.std.specs.List.{list_any, list_all}
@@ -16,6 +16,8 @@ use Rattle.astg_read.specs.Graphs.{PlaceAt, Named, same_place}
 use Rattle.astg_read.specs.Markings.{Entry, is_closing, token_words as words_of_tokens, entries_after, before_close, after_close, entries_of, starts_between, starts_place, starts_tokens, starts_entry, is_whole_place, is_whole, named_by, names_one, with_named, tokens_of, is_bad_entry, has_bad_entry, is_bad_marking, entry_tokens}
 use Rattle.stg_net.proofs.NameBytes.{not_at, name-bytes}
 use Rattle.astg_lex.proofs.DecimalLemmas.{number-decimal}
+use Rattle.astg_lex.proofs.FirstLemmas.{before-missing, after-missing, after-later}
+use Rattle.astg_lex.proofs.ListLemmas.{drop-none}
 use Rattle.astg_write.proofs.WordForms.{digit-in_name, decimal-digits, all-weaker}
 use Rattle.astg_write.proofs.WrittenRows.{token_words, entry_words}
 use Rattle.astg_write.proofs.Listed.{any-append_none, any-append_right}
@@ -28,20 +30,12 @@ not_single v h (c ∷ cs) k =
     let p = and_parts (is_in_name c) (list_all is_in_name cs) k in
     ap (λ b. b && bytes_eq cs []) (not_at is_in_name v c h p.0)
 
-drop-nothing : (ws : Row) → drop 0 ws ≡ ws
-drop-nothing [] = refl
-drop-nothing (w ∷ ws) = refl
-
 -- the words before and after the closing one
 before-closed : (ws : Row) → list_any is_closing ws ≡ false → before_close (ws ++ codes "}" ∷ []) ≡ ws
-before-closed [] h = refl
-before-closed (w ∷ ws) h = let p = or_parts (is_closing w) (list_any is_closing ws) h in
-    ap (λ b. cond b [] (w ∷ before_close (ws ++ codes "}" ∷ []))) p.0 ∙ ap (λ l. w ∷ l) (before-closed ws p.1)
+before-closed ws none = before-missing is_closing ws (codes "}" ∷ []) none ∙ append-nil ws
 
 after-closed : (ws : Row) → list_any is_closing ws ≡ false → after_close (ws ++ codes "}" ∷ []) ≡ []
-after-closed [] h = refl
-after-closed (w ∷ ws) h = let p = or_parts (is_closing w) (list_any is_closing ws) h in
-    ap (λ b. cond b (ws ++ codes "}" ∷ []) (after_close (ws ++ codes "}" ∷ []))) p.0 ∙ after-closed ws p.1
+after-closed ws none = after-missing is_closing ws (codes "}" ∷ []) none
 
 -- the numbers below n
 abbrev pub numbers : ℕ → List ℕ
@@ -115,7 +109,7 @@ module _ (prefix : List ℕ) (tokens : List ℕ) where
         let w = numbered_name prefix q in
         let ws = token_words (count q) ++ flat_map words_at qs in
         ap (λ b. cut_by b ws) (not_single 60 refl w (bytes-of q g))
-        ∙ ap (λ l. (record { place = w ∷ []; tokens = words_of_tokens l }) ∷ entries_after (0 + length (words_of_tokens l)) ws) (drop-nothing ws)
+        ∙ ap (λ l. (record { place = w ∷ []; tokens = words_of_tokens l }) ∷ entries_after (0 + length (words_of_tokens l)) ws) (drop-none ws)
         ∙ by_case (nat_le (count q) 1) (no-tokens qs t) (entries-cut qs t)
       where
         w : Word
@@ -232,11 +226,11 @@ module _ (prefix : List ℕ) (tokens : List ℕ) where
         let none : list_any is_closing ws ≡ false = ap (list_any is_closing) same ∙ no-close (places_with_tokens m) good in
         let words = codes "{" ∷ (ws ++ codes "}" ∷ []) in
         let entries : entries_of words ≡ map entry_for (places_with_tokens m) =
-        ap (λ l. entries_after zero (before_close l)) (drop-nothing (ws ++ codes "}" ∷ []))
+        ap (λ l. entries_after zero (before_close l)) (drop-none (ws ++ codes "}" ∷ []))
         ∙ ap (entries_after zero) (before-closed ws none ∙ same) ∙ entries-cut (places_with_tokens m) good in
         let closed : list_any is_closing words ≡ true = any-append_right is_closing (codes "{" ∷ ws) (codes "}" ∷ []) refl in (
           entries,
           or_from (has_bad_entry most d places (list_any is_closing words) [] (entries_of words)) (nat_lt 0 (length (after_close words)))
               ((λ j. has_bad_entry most d places (closed j) [] (entries j)) ∙ entries-good d places [] (places_with_tokens m) good some there (λ k e b. refl) apart)
-              (ap (λ l. nat_lt 0 (length l)) (after-closed ws none)),
+              (ap (λ l. nat_lt 0 (length l)) (after-later is_closing (codes "{") (ws ++ codes "}" ∷ []) refl ∙ after-closed ws none)),
         )

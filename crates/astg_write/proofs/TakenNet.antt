@@ -27,7 +27,8 @@ use Rattle.astg_write.specs.ComponentText.{comes_from, goes_into, goes_out_of, i
 use Rattle.astg_write.proofs.WrittenRows.{trans_row, place_row, place_rows}
 use Rattle.astg_write.proofs.TakenRows.{Takes, Takes-append, Takes-one}
 use Rattle.astg_write.proofs.TakenGraphRows.{given_weight, IsAimOf, with_text_arcs_of, after-graph_row, graph_row-taken}
-use Rattle.astg_write.proofs.Listed.{any-append_none, any-listed, any-listed_none, length-listed, length-listed-le, length-listed-map, again-none}
+use Rattle.stg_net.proofs.Listed.{length-listed}
+use Rattle.astg_write.proofs.Listed.{any-append_none, any-listed, any-listed_none, length-listed-le, length-listed-map, again-none}
 use Rattle.astg_write.proofs.Appearing.{cut, cut-most, cut-below, cut-above, cut-rises, firsts-rising, with_new-old, with_new-new, giver-there, giver-least, giver-none}
 use Rattle.astg_write.proofs.WrittenArcs.{arcs_given, arcs_taken, written-length, AllPairs-mapped, AllPairs-with}
 use Rattle.astg_write.proofs.Readable.{IsReadable, trans_at, place-word, trans-word, trans-apart, given-rise, taken-rise}

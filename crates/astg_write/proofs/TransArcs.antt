@@ -1,12 +1,11 @@
 -- The arcs of a transition, in a list of all arcs by their transitions.
-use Rattle.std.proofs.Common.{◌≡◌, ◌≢◌, ◌+◌, ◌-◌, ◌<◌, ◌≤◌, ◌==◌, ◌&&◌, ℕ, List, [], ◌∷◌, ◌++◌, Bool, true, false, cond, not, filter, length, take, drop, get_or, refl, sym, ap, ◌∙◌, arith, eq-eqb, inl, inr, All, append-nil}
-use Rattle.std.proofs.lemmas.Bool.{and_right, cases_order, ne_eqb}
-use Rattle.std.specs.Cmp.{nat_cmp_is}
+use Rattle.std.proofs.Common.{◌≡◌, ◌≢◌, ◌+◌, ◌-◌, ◌<◌, ◌≤◌, ◌==◌, ◌&&◌, ℕ, List, [], ◌∷◌, ◌++◌, Bool, true, false, cond, not, filter, length, take, drop, get_or, refl, sym, ap, ◌∙◌, All, append-nil}
+use Rattle.std.proofs.lemmas.Bool.{and_right, ne_eqb}
 use Rattle.std.proofs.lemmas.List.Elements.{All-head, All-tail}
 use Rattle.std.specs.List.Sorted.{IsPartitionPoint, IsStableByKey}
 use Rattle.std.specs.Ordering.{is_lt, nat_cmp}
-use Rattle.std.specs.declared.cmp.Ordering.TheVariants.{Less, Equal, Greater}
 use Rattle.std.specs.Prelude.{codes}
+use Rattle.stg_net.proofs.Keyed.{tie_test}
 use Rattle.stg_net.specs.declared.arc.NetArc.{NetArc}
 use Rattle.astg_write.specs.PlaceNames.{numbered_name}
 use Rattle.astg_write.specs.ComponentText.{comes_from, weight_group, given_text}
@@ -48,31 +47,13 @@ given-filter prefix t (a ∷ xs) = by (a.trans == t) refl (given-filter prefix t
     by true e more = (λ j. cond (a.into && sym e j) (word (more j)) (more j))
     by false e more = ap (λ b. cond b (word (given_text prefix t xs)) (given_text prefix t xs)) (and_right a.into false refl) ∙ more
 
--- neither number is below the other where they are one
-tie-is : (x y : ℕ) → (not (is_lt (nat_cmp x y)) && not (is_lt (nat_cmp y x))) ≡ (y == x)
-tie-is x y = elim (cases_order x y) [
-  | inl same ↦
-      let there = nat_cmp_is x y Equal same in
-      let back = nat_cmp_is y x Equal (sym same) in
-      (λ j. not (is_lt (sym there j)) && not (is_lt (sym back j))) ∙ sym (eq-eqb y x (sym same))
-  | inr differ ↦ elim differ [
-    | inl less ↦
-        let there = nat_cmp_is x y Less less in
-        (λ j. not (is_lt (sym there j)) && not (is_lt (nat_cmp y x))) ∙ sym (ne_eqb y x (λ e. absurd (omega (arith, e, less))))
-    | inr more ↦
-        let there = nat_cmp_is x y Greater more in
-        let back = nat_cmp_is y x Less more in
-        (λ j. not (is_lt (sym there j)) && not (is_lt (sym back j))) ∙ sym (ne_eqb y x (λ e. absurd (omega (arith, e, more))))
-  ]
-]
-
 -- a stable sort by transitions leaves what each transition gives
 pub given-sorted : (xs ys : List NetArc) → IsStableByKey (λ (a : NetArc). a.trans) nat_cmp xs ys → (prefix : List ℕ) (t : ℕ) → given_text prefix t ys ≡ given_text prefix t xs
 given-sorted xs ys stable prefix t =
     let x : NetArc = record { place = 0; trans = t; into = false; weight = 0 } in
     let tie : NetArc → Bool = λ a. not (is_lt (nat_cmp t a.trans)) && not (is_lt (nat_cmp a.trans t)) in
     let own : NetArc → Bool = λ a. a.trans == t in
-    let agree : (zs : List NetArc) → filter tie zs ≡ filter own zs = λ zs. filter-agree tie own zs (λ k d b. tie-is t (get_or zs k d).trans) in
+    let agree : (zs : List NetArc) → filter tie zs ≡ filter own zs = λ zs. filter-agree tie own zs (λ k d b. tie_test t (get_or zs k d).trans) in
     given-filter prefix t ys
     ∙ ap (given_text prefix t) (sym (agree ys) ∙ stable x ∙ agree xs)
     ∙ sym (given-filter prefix t xs)

@@ -1,12 +1,13 @@
 -- Bytes that are written word by word are read so.
-use Rattle.std.proofs.Common.{◌≡◌, ◌+◌, ◌==◌, ◌&&◌, ◌||◌, ℕ, List, [], ◌∷◌, ◌++◌, Bool, true, false, cond, not, map, refl, sym, ap, ◌∙◌, append_assoc, append-nil, inl, inr, suc, take, arith}
-use Rattle.std.proofs.lemmas.Bool.{and_parts, and_from, cases_Bool, true≢false, not-true}
+use Rattle.std.proofs.Common.{◌≡◌, ◌+◌, ◌==◌, ◌&&◌, ℕ, List, [], ◌∷◌, ◌++◌, Bool, true, false, cond, not, map, refl, sym, ap, ◌∙◌, append_assoc, append-nil, suc, take, arith}
+use Rattle.std.proofs.lemmas.Bool.{and_parts, and_from, not-true}
 use Rattle.std.proofs.lemmas.List.{map-append}
-use Rattle.std.proofs.lemmas.List.Folds.{list_all-append}
 use Rattle.std.specs.List.{list_all, position_or_len}
 use Rattle.std.specs.Prelude.{codes}
 use Rattle.astg_lex.specs.Lines.{lines_of, with_byte, code_of, may_stand, has_bad_byte}
-use Rattle.astg_lex.specs.Words.{WordAt, words_at, words_of, longer, is_blank, is_single, is_joining, begins_joining}
+use Rattle.astg_lex.specs.Words.{WordAt, words_at, words_of, longer, is_blank, is_joining, begins_joining}
+use Rattle.astg_lex.proofs.ListLemmas.{all-append}
+use Rattle.astg_lex.proofs.WordLemmas.{joining-not_blank, pick-last, pick-middle}
 use Rattle.astg_read.specs.Rows.{Row}
 use Rattle.astg_read.specs.Rules.{Line, seen_line}
 use Rattle.astg_write.specs.ComponentText.{line}
@@ -41,26 +42,17 @@ pub words_at-plain : (at : ℕ) (bs : List ℕ) → texts_of (words_at at bs) �
 words_at-plain at [] = refl
 words_at-plain at (b ∷ bs) = with-plain at b (words_at (at + 1) bs) (is_blank b) (is_joining b && begins_joining bs) ∙ ap (plain_with b bs) (words_at-plain (at + 1) bs)
 
-joining-not_blank : (b : ℕ) → is_joining b ≡ true → is_blank b ≡ false
-joining-not_blank b h = elim (cases_Bool (is_blank b)) [ inl k ↦ absurd (true≢false (sym h ∙ ap (λ x. not (x || is_single b)) k)) | inr k ↦ k ]
-
-pick_middle : {A : Type 0} (t u : Bool) (x y z : A) → t ≡ false → u ≡ true → cond t x (cond u y z) ≡ y
-pick_middle t u x y z h k = ap (λ s. cond s x (cond u y z)) h ∙ ap (λ s. cond s y z) k
-
-pick_last : {A : Type 0} (t u : Bool) (x y z : A) → t ≡ false → u ≡ false → cond t x (cond u y z) ≡ z
-pick_last t u x y z h k = ap (λ s. cond s x (cond u y z)) h ∙ ap (λ s. cond s y z) k
-
 -- a run of joining bytes in front is a word
 pub plain-word : (b : ℕ) (bs rest : List ℕ) → list_all is_joining (b ∷ bs) ≡ true → begins_joining rest ≡ false → plain_words ((b ∷ bs) ++ rest) ≡ (b ∷ bs) ∷ plain_words rest
 plain-word b [] rest h e =
     let k = and_parts (is_joining b) true h in
-    pick_last (is_blank b) (is_joining b && begins_joining rest) (plain_words rest) (joined b (plain_words rest)) ((b ∷ []) ∷ plain_words rest)
+    pick-last (is_blank b) (is_joining b && begins_joining rest) (plain_words rest) (joined b (plain_words rest)) ((b ∷ []) ∷ plain_words rest)
     (joining-not_blank b k.0) (ap (λ t. t && begins_joining rest) k.0 ∙ e)
 plain-word b (c ∷ cs) rest h e =
     let k = and_parts (is_joining b) (list_all is_joining (c ∷ cs)) h in
     let l = and_parts (is_joining c) (list_all is_joining cs) k.1 in
     let words = plain_words ((c ∷ cs) ++ rest) in
-    pick_middle (is_blank b) (is_joining b && is_joining c) words (joined b words) ((b ∷ []) ∷ words)
+    pick-middle (is_blank b) (is_joining b && is_joining c) words (joined b words) ((b ∷ []) ∷ words)
     (joining-not_blank b k.0) (and_from (is_joining b) (is_joining c) k.0 l.0)
     ∙ ap (joined b) (plain-word c cs rest k.1 e)
 
@@ -77,10 +69,6 @@ pub record AreWords (bytes : List ℕ) (row : Row) : Type 0 where
 pub record Follow (bytes : List ℕ) (row : Row) : Type 0 where
   pub are : AreWords bytes row
   pub apart : (rest : List ℕ) → begins_joining rest ≡ false → begins_joining (bytes ++ rest) ≡ false
-
--- of two lists, all pass
-pub all-append : (f : ℕ → Bool) (xs ys : List ℕ) → list_all f xs ≡ true → list_all f ys ≡ true → list_all f (xs ++ ys) ≡ true
-all-append f xs ys h k = list_all-append f xs ys ∙ and_from (list_all f xs) (list_all f ys) h k
 
 -- words and words after them
 pub AreWords-append : (x y : List ℕ) (r s : Row) → AreWords x r → Follow y s → AreWords (x ++ y) (r ++ s)

@@ -2,7 +2,7 @@ use Rattle.std.proofs.Common.{ltb, ltb-true, rules}
 use Rattle.std.proofs.lemmas.Bool.{ltb-false}
 use Rattle.std.proofs.lemmas.List.Sorted.{IsPartitionPoint-from_clause, IsPartitionedBy-ltb}
 use Rattle.stg_net.specs.declared.arc.NetArc.{NetArc}
-use Rattle.astg_write.proofs.PlaceArcs.{places_rise}
+use Rattle.stg_net.proofs.Together.{places_rise}
 use Rattle.astg_write.proofs.arcs.arcs_below.Goals as goal
 
 pub returns-clause-point : goal.returns-clause-point
