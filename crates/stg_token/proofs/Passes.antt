@@ -1,9 +1,10 @@
 -- What a pass over the arcs of a net does to a marking, and what it tells of it.
-use Rattle.std.proofs.Common.{◌≡◌, ℕ, ◌+◌, ◌-◌, ◌<◌, ◌≤◌, ◌==◌, nat_le, Bool, true, false, cond, List, length, get_or, drop, All, is_some, refl, sym, ap, ◌∙◌, subst, arith, eq-eqb, inl, inr, get_or-set_same, get_or-set_other, length-set}
-use Rattle.std.specs.List.{range_with_len}
+use Rattle.std.proofs.Common.{◌≡◌, ◌↔◌, ℕ, ◌+◌, ◌-◌, ◌<◌, ◌≤◌, ◌==◌, nat_le, Bool, true, false, cond, List, length, get_or, drop, All, is_some, refl, sym, ap, ◌∙◌, subst, arith, eq-eqb, inl, inr, get_or-set_same, get_or-set_other, length-set}
+use Rattle.std.specs.List.{range_with_len, list_all}
+use Rattle.std.proofs.lemmas.List.Sums.{AllPass-from_list_all, list_all-from_AllPass}
 use Rattle.std.proofs.Math.ListN.{set}
 use Rattle.std.proofs.lemmas.Bool.{and_parts, cases_eq, cases_lt, cases_Bool, eqb-true, le-leb, leb-true, false≢true, false_from_ne_true}
-use Rattle.std.proofs.lemmas.List.{at_drop_more, get_or_default, get_or_past}
+use Rattle.std.proofs.lemmas.List.{at_drop_more, get_or_past}
 use Rattle.stg_net.specs.declared.arc.NetArc.{NetArc}
 use Rattle.stg_net.specs.declared.limits.Limits.{Limits}
 use Rattle.stg_net.specs.Net.{NetLists, IsNet, IsWithin}
@@ -71,9 +72,6 @@ enabled_holds n m t i d net inside enabled = holds (get_or n.arcs i d) (weight_o
       | inl e ↦ rw e (le-leb a.weight (get_or m a.place 0) (omega (arith, enabled.covered a.place, takes-graph_of n t a.place net, sole (connects_own_place t false a e))))
     ]
 
-pub unheld : (n : NetLists) (m : List ℕ) (t i : ℕ) (d : NetArc) → IsNet n → i < length n.arcs → is_held m t (get_or n.arcs i d) ≡ false → IsEnabled (graph_of n) (λ p. get_or m p 0) t → ⊥
-unheld n m t i d net inside e enabled = false≢true (sym e ∙ enabled_holds n m t i d net inside enabled)
-
 held_weight : (m : List ℕ) (t p : ℕ) (a : NetArc) → Connects false t p a → is_held m t a ≡ true → a.weight ≤ get_or m p 0
 held_weight m t p a j held =
     let e = connects_its_trans t p false a j in
@@ -82,7 +80,7 @@ held_weight m t p a j held =
     subst P j.place_is (leb-true a.weight (get_or m a.place 0) le)
 
 -- where each arc's place holds what t takes by it, t is enabled
-pub held_enabled : (n : NetLists) (m : List ℕ) (t : ℕ) → IsNet n → t < length n.trans → ((i : ℕ) (d : NetArc) → i < length n.arcs → is_held m t (get_or n.arcs i d) ≡ true) → IsEnabled (graph_of n) (λ p. get_or m p 0) t
+held_enabled : (n : NetLists) (m : List ℕ) (t : ℕ) → IsNet n → t < length n.trans → ((i : ℕ) (d : NetArc) → i < length n.arcs → is_held m t (get_or n.arcs i d) ≡ true) → IsEnabled (graph_of n) (λ p. get_or m p 0) t
 held_enabled n m t net there held = record {
   live = ap is_some (full_name_at-graph_of n t there);
   covered = λ p. elim (cases_lt 0 (weight_of n.arcs false t p)) [
@@ -97,6 +95,13 @@ held_enabled n m t net there held = record {
         let Q : NetArc → Type 0 = λ a. weight_of n.arcs false t p ≡ a.weight in
         let sole = subst Q (j.arc_is j.arc) (weight_of-arc false t p n.arcs j.at j.arc net.ordered j.inside (ap (connects false t p) (j.arc_is j.arc) ∙ connects_whole false t p j.arc j.connects_both)) in
         omega (arith, takes-graph_of n t p net, sole, held_weight m t p j.arc j.connects_both (subst P (j.arc_is j.arc) (held j.at j.arc j.inside)))
+
+-- t is enabled exactly where all places hold what it takes
+pub enabled_by_all : (n : NetLists) (arcs : List NetArc) (m : List ℕ) (t : ℕ) (b : Bool) → arcs ≡ n.arcs → IsNet n → t < length n.trans → b ≡ list_all (is_held m t) arcs → (b ≡ true) ↔ IsEnabled (graph_of n) (λ p. get_or m p 0) t
+enabled_by_all n arcs m t b same net there is = (
+  λ e. held_enabled n m t net there (AllPass-from_list_all (is_held m t) n.arcs (ap (list_all (is_held m t)) (sym same) ∙ sym is ∙ e)),
+  λ enabled. is ∙ ap (list_all (is_held m t)) same ∙ list_all-from_AllPass (is_held m t) n.arcs (λ i d inside. enabled_holds n m t i d net inside enabled),
+)
 
 -- the marking of the net's tokens
 pub start_tokens : (n : NetLists) (m : List ℕ) → m ≡ n.tokens → (p : ℕ) → get_or m p 0 ≡ tokens_at (graph_of n) p
@@ -119,17 +124,6 @@ pub dropped : (arcs : List NetArc) (i : ℕ) (into : Bool) (t p : ℕ) → i < l
 dropped arcs i into t p inside =
     at_drop_more (λ xs. weight_of xs into t p) arcs i (record { place = 0; trans = 0; into = false; weight = 0 }) inside
     ∙ weight_of-cons into t p (arc_at arcs i) (drop (i + 1) arcs)
-
--- one more arc
-pub held_more : (m : List ℕ) (t : ℕ) (arcs : List NetArc) (i : ℕ) → i < length arcs → ((k : ℕ) (d : NetArc) → k < i → is_held m t (get_or arcs k d) ≡ true) → is_held m t (arc_at arcs i) ≡ true
-    → (k : ℕ) (d : NetArc) → k < i + 1 → is_held m t (get_or arcs k d) ≡ true
-held_more m t arcs i inside below here k d lt = elim (cases_lt k i) [
-  | inl l ↦ below k d l
-  | inr r ↦
-      let P : ℕ → Type 0 = λ j. is_held m t (get_or arcs j d) ≡ true in
-      let Q : NetArc → Type 0 = λ a. is_held m t a ≡ true in
-      subst P (omega (arith, lt, r)) (subst Q (get_or_default arcs i (record { place = 0; trans = 0; into = false; weight = 0 }) d inside) here)
-]
 
 -- the places of a net's arcs are in each marking
 pub arcs_inside : (n : NetLists) (arcs : List NetArc) (m : List ℕ) → arcs ≡ n.arcs → IsNet n → length m ≡ length n.tokens → All (λ (a : NetArc). a.place < length m) arcs

@@ -25,11 +25,16 @@ fn connects_trans(arc: NetArc, t: u32, into: bool) -> bool
     arc.trans == t && arc.into == into
 }
 
+fn tokens(m: &Nums, place: u32) -> u32
+    ensures { result ≡ slice_index m.now place }
+{
+    m.get(place as usize).copied().unwrap_or(0)
+}
+
 fn holds(m: &Nums, t: u32, arc: NetArc) -> bool
-    requires { arc.place < length m.now }
     ensures { result ≡ is_held m.now t arc }
 {
-    !connects_trans(arc, t, false) || arc.weight <= m.as_slice()[arc.place as usize]
+    !connects_trans(arc, t, false) || arc.weight <= tokens(m, arc.place)
 }
 
 /// Whether the transition of that number can fire at the marking.
@@ -38,12 +43,7 @@ pub fn enabled(net: &Net, m: &Nums, t: u32) -> bool
     requires marking { length m.now ≡ length net.now.tokens }
     ensures { IsTrue result ↔ IsEnabled (graph_of net.now) (slice_index m.now) t }
 {
-    for arc in net.arcs() {
-        if !holds(m, t, *arc) {
-            return false;
-        }
-    }
-    true
+    net.arcs().iter().all(|arc| holds(m, t, *arc))
 }
 
 fn take(m: &mut Nums, t: u32, arc: NetArc)
