@@ -1,21 +1,20 @@
 -- Each text names one partition of a net, or is refused by one error.
-use Rattle.std.proofs.Common.{◌≡◌, ◌<◌, ◌⊎◌, ℕ, zero, suc, not, if◌then◌else◌, Bool, true, false, List, length, map, Option, Some, None, Result, Ok, Err, refl, sym, ap, ◌∙◌, subst, arith, inl, inr}
+use Rattle.std.proofs.Common.{◌≡◌, ◌<◌, ◌⊎◌, ℕ, zero, suc, if◌then◌else◌, Bool, true, false, List, length, map, Option, Some, None, Result, Ok, Err, refl, sym, ap, ◌∙◌, subst, arith, inl, inr}
 use Rattle.std.specs.List.{range_with_len}
-use Rattle.std.proofs.lemmas.Bool.{cases_Bool, cases_lt, cases_order, and_parts, false≢true}
+use Rattle.std.proofs.lemmas.Bool.{cases_Bool, cases_lt, cases_order, false≢true}
 use Rattle.std.proofs.lemmas.List.{length-map}
 use Rattle.std.proofs.lemmas.List.FromFn.{length-range_with_len, get_or-map-range_with_len}
 use Rattle.stg_net.specs.Net.{NetLists, IsNet}
-use Rattle.stg_laws.specs.Groups.{is_driven_at}
 use Rattle.stg_laws.specs.PlainGroups.{Group, AreFeasible}
-use Rattle.stg_laws.proofs.SignalConflicts.{driven_there}
 use Rattle.stg_partition.specs.declared.error.GroupError.{GroupError}
 use Rattle.stg_partition.specs.declared.error.GroupError.TheVariants as errors
 use Rattle.stg_partition.specs.declared.splits.Split.{Split}
 use Rattle.stg_partition.specs.PartitionText.{GroupRow, rows_of}
-use Rattle.stg_partition.specs.Partition.{row_group, row_groups, groups_in, stands_in, is_missing, AreWhole, IsLeastSplit, ArePartition, IsRefusedPartition, IsAnswer, HasOneAnswer}
+use Rattle.stg_partition.specs.Partition.{row_group, row_groups, groups_in, is_missing, AreWhole, IsLeastSplit, ArePartition, IsRefusedPartition, IsAnswer, HasOneAnswer}
 use Rattle.stg_partition.specs.inner.Naming.{AreNamedGroups, AreRefusedBy}
 use Rattle.stg_partition.specs.inner.Numbers.{group_number, AreNumbers}
 use Rattle.stg_partition.specs.inner.Splits.{least_takers, least_split, AreLeastTakers}
+use Rattle.stg_partition.proofs.GroupNumbers.{missing_there}
 use Rattle.stg_partition.proofs.GoodRows.{read_good, refused_line, IsOfLine}
 use Rattle.stg_partition.proofs.NamedGroups.{rows_named}
 use Rattle.stg_partition.proofs.Feasible.{unsplit_feasible, feasible_whole, feasible_unsplit}
@@ -94,9 +93,6 @@ first_is test (suc n) = go (first_of test n) (first_is test n)
         | inr past ↦ let same : n ≡ r = omega arith in ap test (sym same) ∙ e
       ])
     ]
-
-missing_there : (n : NetLists) (groups : List Group) (s : ℕ) → is_missing n groups s ≡ true → s < length n.signals
-missing_there n groups s missing = driven_there n s (and_parts (is_driven_at n.signals s) (not (stands_in groups s)) missing).0
 
 abbrev pub numbers_of : NetLists → List Group → List (Option ℕ)
 numbers_of n groups = map (group_number groups) (range_with_len 0 (length n.signals))

@@ -1,5 +1,6 @@
 -- Flags by leaders: each leader and signal have one of their own.
 use Rattle.std.proofs.Common.{◌≡◌, ◌≢◌, ℕ, ◌+◌, ◌*◌, ◌<◌, ◌≤◌, ◌&&◌, ◌||◌, ◌==◌, Bool, true, false, List, length, get_or, refl, sym, ap, ◌∙◌, arith, eq-eqb, inl, inr, get_or-set_same, get_or-set_other}
+use Rattle.std.proofs.Math.Bool.{or-true}
 use Rattle.std.proofs.Math.ListN.{set}
 use Rattle.std.proofs.Math.Nat.{mul-le-mul_right}
 use Rattle.std.proofs.lemmas.Bool.{cases_eq, cases_order, ne_eqb}
@@ -27,14 +28,10 @@ flag_set flags size l k s r low also inside = elim (cases_eq (l * size + s) (k *
       let signal = same_signal size l k s r leader same in
       let here : get_or (set flags (k * size + r) true) (l * size + s) false ≡ true =
       ap (λ i. get_or (set flags (k * size + r) true) i false) same ∙ get_or-set_same flags (k * size + r) true false inside in
-      here ∙ sym (rw (eq-eqb k l (sym leader), eq-eqb r s (sym signal)) (or_true (get_or flags (l * size + s) false)))
+      here ∙ sym (rw (eq-eqb k l (sym leader), eq-eqb r s (sym signal)) (or-true (get_or flags (l * size + s) false)))
   | inr other ↦ get_or-set_other flags (k * size + r) (l * size + s) true false other ∙ sym (or_none (get_or flags (l * size + s) false) ((k == l) && (r == s)) (apart (λ a b. other (rw (a, b) refl))))
 ]
   where
-    or_true : (b : Bool) → (b || true) ≡ true
-    or_true true = refl
-    or_true false = refl
-
     or_none : (b c : Bool) → c ≡ false → (b || c) ≡ b
     or_none true c e = refl
     or_none false c e = e

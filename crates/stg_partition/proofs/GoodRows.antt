@@ -2,7 +2,7 @@
 use Rattle.std.proofs.Common.{◌≡◌, ◌<◌, ◌+◌, ◌||◌, ℕ, Bool, true, false, nat_lt, List, [], ◌∷◌, ◌++◌, length, get_or, zero, suc, All, AllPairs, Result, Ok, Err, refl, sym, ap, ◌∙◌, subst, arith, inl, inr}
 use Rattle.std.specs.List.{list_all}
 use Rattle.std.specs.Str.{bytes_eq}
-use Rattle.std.proofs.lemmas.Bool.{cases_Bool, false≢true}
+use Rattle.std.proofs.lemmas.Bool.{cases_Bool, or_parts, false≢true}
 use Rattle.std.proofs.lemmas.List.Elements.{All-nil, All-push}
 use Rattle.std.proofs.lemmas.List.Quantifiers.{all_pairs_push}
 use Rattle.std.proofs.lemmas.Slice.Eq.{bytes_eq-Decides}
@@ -24,24 +24,21 @@ pub record AreGoodRows (signals : List Signal) (rows : List GroupRow) : Type 0 w
   pub outputs : All (λ (row : GroupRow). list_all (names_output signals) row ≡ true) rows
   pub apart : AllPairs AreApart rows
 
-or_false : (b c : Bool) → (b || c) ≡ false → (b ≡ false) × (c ≡ false)
-or_false true c e = absurd (false≢true (sym e))
-or_false false c e = (refl, e)
-
-or_cases : (b c : Bool) → (b || c) ≡ true → b ≡ false → c ≡ true
-or_cases true c e f = absurd (false≢true (sym f))
-or_cases false c e f = e
+-- where the first of two tests fails, the second one passes
+pub or_second : (b c : Bool) → (b || c) ≡ true → b ≡ false → c ≡ true
+or_second true c e f = absurd (false≢true (sym f))
+or_second false c e f = e
 
 -- a word that doesn't stand again doesn't stand before
 not_before : (before ws : GroupRow) (w : List ℕ) → stands_again before ws ≡ false → is_among ws w ≡ true → is_among before w ≡ false
 not_before before [] w none here = absurd (false≢true here)
 not_before before (v ∷ ws) w none here =
-    let parts = or_false (is_among before v) (stands_again (before ++ v ∷ []) ws) none in
+    let parts = or_parts (is_among before v) (stands_again (before ++ v ∷ []) ws) none in
     elim (cases_Bool (bytes_eq v w)) [
       | inl e ↦ ap (is_among before) (sym ((bytes_eq-Decides v w).0 e)) ∙ parts.0
       | inr e ↦
-          let later = not_before (before ++ v ∷ []) ws w parts.1 (or_cases (bytes_eq v w) (is_among ws w) here e) in
-          (or_false (is_among before w) (is_among (v ∷ []) w) (sym (among_append before (v ∷ []) w) ∙ later)).0
+          let later = not_before (before ++ v ∷ []) ws w parts.1 (or_second (bytes_eq v w) (is_among ws w) here e) in
+          (or_parts (is_among before w) (is_among (v ∷ []) w) (sym (among_append before (v ∷ []) w) ∙ later)).0
     ]
 
 -- a word of a row is one of all words

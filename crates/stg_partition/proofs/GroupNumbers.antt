@@ -122,7 +122,8 @@ unnumbered_missing n groups numbers s are there =
     ap (λ (o : Option ℕ). is_driven_at n.signals s && is_none o) (are.each s there)
     ∙ sym (ap (λ b. is_driven_at n.signals s && b) (any-is_none (λ (group : Group). is_one_of group.own s) groups no_group))
 
-missing_there : (n : NetLists) (groups : List Group) (s : ℕ) → is_missing n groups s ≡ true → s < length n.signals
+-- a missing signal is one of the net
+pub missing_there : (n : NetLists) (groups : List Group) (s : ℕ) → is_missing n groups s ≡ true → s < length n.signals
 missing_there n groups s missing = driven_there n s (and_parts (is_driven_at n.signals s) (not (stands_in groups s)) missing).0
 
 -- the first without a number is the least that is missing

@@ -1,5 +1,6 @@
 -- The groups of the leaders are the plain groups.
-use Rattle.std.proofs.Common.{◌≡◌, ◌↔◌, ℕ, ◌<◌, ◌&&◌, ◌||◌, ◌==◌, Bool, true, false, List, length, get_or, map, All, Any, AllPairs, Contains, slice_index, Option, Some, None, IsTrue, refl, sym, ap, ◌∙◌, subst, arith, eq-eqb, inl, inr}
+use Rattle.std.proofs.Common.{◌≡◌, ◌↔◌, ℕ, ◌<◌, ◌&&◌, ◌||◌, ◌==◌, Bool, true, List, length, get_or, map, All, Any, AllPairs, Contains, slice_index, Option, Some, None, IsTrue, refl, sym, ap, ◌∙◌, subst, arith, eq-eqb, inl, inr}
+use Rattle.std.specs.Cmp.{both_ways}
 use Rattle.std.specs.List.{list_any, range_with_len}
 use Rattle.std.proofs.lemmas.Bool.{and_parts, and_from, or_left, or_right, or_cases, eqb-true, ne_eqb, false≢true}
 use Rattle.std.proofs.lemmas.List.{get_or-map, length-map}
@@ -18,11 +19,6 @@ use Rattle.stg_laws.proofs.KnownSignals.{at_by, passing, own_takes, known_at, pa
 use Rattle.stg_laws.proofs.SignalConflicts.{driven_there, joined_driven}
 use Rattle.stg_partition.proofs.Leading.{leader_of, taker_there, led_by, joined_led}
 use Rattle.stg_partition.proofs.Numbers.{numbers_increase, numbers_pass, contained_passes, first_number}
-
-bool_same : (b c : Bool) → (b ≡ true → c ≡ true) → (c ≡ true → b ≡ true) → b ≡ c
-bool_same true c to from = sym (to refl)
-bool_same false true to from = from refl
-bool_same false false to from = refl
 
 module _ (n : NetLists) (leaders : List ℕ) (takers : List (Option ℕ)) (j : IsJoining n (length n.arcs) leaders takers) where
   abbrev own_of : ℕ → List ℕ
@@ -127,7 +123,7 @@ module _ (n : NetLists) (leaders : List ℕ) (takers : List (Option ℕ)) (j : I
       same : (s : ℕ) → s < length leaders → is_known_by leaders flags l s ≡ is_known_to n (own_of l) s
       same s below =
           ap (λ b. (slice_index leaders s == l) || b) (are l s below)
-          ∙ bool_same ((slice_index leaders s == l) || list_any (brings n leaders takers l s) n.arcs) (is_known_to n (own_of l) s)
+          ∙ both_ways ((slice_index leaders s == l) || list_any (brings n leaders takers l s) n.arcs) (is_known_to n (own_of l) s)
           (λ h. elim (or_cases (slice_index leaders s == l) (list_any (brings n leaders takers l s) n.arcs) h) [
             | inl led ↦ own_is_known l s below (eqb-true (leader_of leaders s) l led)
             | inr seen ↦ brought_known l s net seen

@@ -1,7 +1,8 @@
 -- What marks of places and signals tell is what a group knows.
-use Rattle.std.proofs.Common.{◌≡◌, ℕ, zero, suc, ◌<◌, ◌&&◌, ◌||◌, ◌==◌, not, Bool, true, false, List, [], ◌∷◌, ◌++◌, length, if◌then◌else◌, refl, sym, ap, ◌∙◌, subst, eq-eqb, inl, inr}
+use Rattle.std.proofs.Common.{◌≡◌, ℕ, zero, suc, ◌<◌, ◌&&◌, ◌||◌, ◌==◌, not, Bool, true, List, [], ◌∷◌, ◌++◌, length, if◌then◌else◌, refl, sym, ap, ◌∙◌, subst, eq-eqb, inl, inr}
+use Rattle.std.specs.Cmp.{both_ways}
 use Rattle.std.specs.List.{list_any, range_with_len}
-use Rattle.std.proofs.lemmas.Bool.{cases_Bool, and_parts, or_right, eqb-true, not-true, false≢true}
+use Rattle.std.proofs.lemmas.Bool.{cases_Bool, and_parts, or_right, eqb-true, not-true}
 use Rattle.std.proofs.lemmas.List.Folds.{list_any_at}
 use Rattle.stg_net.specs.declared.arc.NetArc.{NetArc}
 use Rattle.stg_net.specs.Net.{NetLists, IsNet}
@@ -9,21 +10,13 @@ use Rattle.stg_net.specs.Component.{is_one_of}
 use Rattle.stg_net.specs.Ordered.{only_where, numbers_where}
 use Rattle.stg_laws.specs.Groups.{signal_of, takes_from, is_at, own_take_from, is_known_to, known_to}
 use Rattle.stg_partition.specs.inner.Marked.{own_takes, takes_by_arc, shows_at, mark_at, AreMarks}
+use Rattle.stg_partition.proofs.GoodRows.{or_second}
 use Rattle.stg_laws.proofs.KnownSignals.{passing, takes_by, at_by, known_at}
 use Rattle.stg_laws.proofs.SignalConflicts.{Taker, taker}
-
-either_way : (b c : Bool) → (b ≡ true → c ≡ true) → (c ≡ true → b ≡ true) → b ≡ c
-either_way true c f g = sym (f refl)
-either_way false true f g = g refl
-either_way false false f g = refl
 
 numbers_same : (f g : ℕ → Bool) (n : ℕ) → ((k : ℕ) → f k ≡ g k) → numbers_where f n ≡ numbers_where g n
 numbers_same f g zero same = refl
 numbers_same f g (suc n) same = ap (λ xs. xs ++ only_where f n) (numbers_same f g n same) ∙ ap (λ (b : Bool). numbers_where g n ++ (if b then n ∷ [] else [])) (same n)
-
-or_case : (b c : Bool) → (b || c) ≡ true → b ≡ false → c ≡ true
-or_case true c e f = absurd (false≢true (sym f))
-or_case false c e f = e
 
 -- the arc by which an own transition takes marks its place
 place_marked : (n : NetLists) (own : List ℕ) (p : ℕ) → own_take_from n own p ≡ true → list_any (takes_by_arc n own p) n.arcs ≡ true
@@ -52,7 +45,7 @@ module _ (n : NetLists) (own : List ℕ) (places marks : List Bool) (net : IsNet
   marked_known s e = elim (cases_Bool (is_one_of own s)) [
     | inl mine ↦ ap (λ b. b || list_any (λ p. own_take_from n own p && is_at n s p) (range_with_len 0 (length n.tokens))) mine
     | inr other ↦
-        let f = passing (shows_at n places s) n.arcs (sym (seen s) ∙ or_case (is_one_of own s) (mark_at marks s) e other) in
+        let f = passing (shows_at n places s) n.arcs (sym (seen s) ∙ or_second (is_one_of own s) (mark_at marks s) e other) in
         let a = f.item in
         let h = and_parts (mark_at places a.place) (signal_of n a == s) f.passes in
         let P : NetArc → Type 0 = λ b. b.place < length n.tokens in
@@ -66,7 +59,7 @@ module _ (n : NetLists) (own : List ℕ) (places marks : List Bool) (net : IsNet
     | inl mine ↦ ap (λ b. b || mark_at marks s) mine
     | inr other ↦
         let test : ℕ → Bool = λ p. own_take_from n own p && is_at n s p in
-        let f = passing test (range_with_len 0 (length n.tokens)) (or_case (is_one_of own s) (list_any test (range_with_len 0 (length n.tokens))) e other) in
+        let f = passing test (range_with_len 0 (length n.tokens)) (or_second (is_one_of own s) (list_any test (range_with_len 0 (length n.tokens))) e other) in
         let h = and_parts (own_take_from n own f.item) (is_at n s f.item) f.passes in
         let g = passing (λ (a : NetArc). (a.place == f.item) && (signal_of n a == s)) n.arcs h.1 in
         let a = g.item in
@@ -77,4 +70,4 @@ module _ (n : NetLists) (own : List ℕ) (places marks : List Bool) (net : IsNet
 
   -- the numbers that are own or marked are those that a group knows
   pub known_is : numbers_where (λ s. is_one_of own s || mark_at marks s) (length n.signals) ≡ known_to n own
-  known_is = numbers_same (λ s. is_one_of own s || mark_at marks s) (is_known_to n own) (length n.signals) (λ s. either_way (is_one_of own s || mark_at marks s) (is_known_to n own s) (marked_known s) (known_marked s))
+  known_is = numbers_same (λ s. is_one_of own s || mark_at marks s) (is_known_to n own) (length n.signals) (λ s. both_ways (is_one_of own s || mark_at marks s) (is_known_to n own s) (marked_known s) (known_marked s))

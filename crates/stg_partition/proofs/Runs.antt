@@ -1,7 +1,9 @@
 -- A line's words by blanks alone, and its words as the lexer gives them: they are the same unless a byte that is a word by itself stands among them, and no signal has such a name.
-use Rattle.std.proofs.Common.{◌≡◌, ◌+◌, ℕ, Bool, true, false, not, nat_le, ◌&&◌, ◌||◌, ◌==◌, List, [], ◌∷◌, cond, map, length, All, bytes_eq, IsTrue, Result, Ok, Err, refl, sym, ap, ◌∙◌, subst, inl, inr, arith}
+use Rattle.std.proofs.Common.{◌≡◌, ◌+◌, ℕ, Bool, true, false, not, nat_le, ◌&&◌, ◌||◌, List, [], ◌∷◌, cond, map, length, All, bytes_eq, IsTrue, Result, Ok, Err, refl, sym, ap, ◌∙◌, subst, inl, inr, arith}
 use Rattle.std.specs.List.{list_any, list_all}
-use Rattle.std.proofs.lemmas.Bool.{cases_Bool, and_parts, false≢true}
+use Rattle.std.proofs.Math.Bool.{or-false}
+use Rattle.std.proofs.lemmas.Bool.{cases_Bool, and_parts, or_parts, not-true, false≢true}
+use Rattle.stg_net.proofs.NameBytes.{begins-in_name}
 use Rattle.std.proofs.lemmas.Bool.Decides.{nat_tests}
 use Rattle.std.proofs.lemmas.Slice.Eq.{bytes_eq-Decides}
 use Rattle.stg_net.specs.declared.signal.Signal.{Signal}
@@ -50,15 +52,11 @@ has_single w = list_any is_single w
 blank_not_single : (b : ℕ) → is_blank b ≡ true → is_single b ≡ false
 blank_not_single b h = grind (arith, nat_tests)
 
-or_parts_false : (b c : Bool) → (b || c) ≡ false → (b ≡ false) × (c ≡ false)
-or_parts_false true c e = absurd (false≢true (sym e))
-or_parts_false false c e = (refl, e)
-
 -- without such a byte both give the same words
 
 same_begin : (bs : List ℕ) → has_single bs ≡ false → begins_joining bs ≡ begins_word bs
 same_begin [] h = refl
-same_begin (b ∷ bs) h = let p = or_parts_false (is_single b) (has_single bs) h in same (is_blank b) (is_single b) p.0
+same_begin (b ∷ bs) h = let p = or_parts (is_single b) (has_single bs) h in same (is_blank b) (is_single b) p.0
   where
     same : (x y : Bool) → y ≡ false → not (x || y) ≡ not x
     same true y e = refl
@@ -67,7 +65,7 @@ same_begin (b ∷ bs) h = let p = or_parts_false (is_single b) (has_single bs) h
 pub lexed-runs : (bs : List ℕ) → has_single bs ≡ false → lexed bs ≡ runs_of bs
 lexed-runs [] h = refl
 lexed-runs (b ∷ bs) h =
-    let p = or_parts_false (is_single b) (has_single bs) h in
+    let p = or_parts (is_single b) (has_single bs) h in
     ap (lexed_with b bs) (lexed-runs bs p.1) ∙ same (is_blank b) (is_single b) (begins_joining bs) (begins_word bs) (runs_of bs) (with_first_byte b (runs_of bs)) ((b ∷ []) ∷ runs_of bs) p.0 (same_begin bs p.1)
   where
     same : (x y s t : Bool) (us vs ws : GroupRow) → y ≡ false → s ≡ t → cond x us (cond (not (x || y) && s) vs ws) ≡ cond x us (cond t vs ws)
@@ -96,20 +94,12 @@ with_front-front : (b : ℕ) (ws : GroupRow) → has_front ws ≡ true → has_f
 with_front-front b [] h = absurd (false≢true h)
 with_front-front b (w ∷ ws) h = refl
 
-not_front : (x : Bool) → not x ≡ true → x ≡ false
-not_front true h = absurd (false≢true h)
-not_front false h = refl
-
 runs_front : (bs : List ℕ) → begins_word bs ≡ true → has_front (runs_of bs) ≡ true
 runs_front [] h = absurd (false≢true h)
 runs_front (b ∷ bs) h = elim (cases_Bool (begins_word bs)) [
-  | inl k ↦ rw (not_front (is_blank b) h) (rw k (with_front-front b (runs_of bs) (runs_front bs k)))
-  | inr k ↦ rw (not_front (is_blank b) h) (rw k refl)
+  | inl k ↦ rw (not-true (is_blank b) h) (rw k (with_front-front b (runs_of bs) (runs_front bs k)))
+  | inr k ↦ rw (not-true (is_blank b) h) (rw k refl)
 ]
-
-or_none : (b : Bool) → (b || false) ≡ b
-or_none true = refl
-or_none false = refl
 
 runs-any : (bs : List ℕ) → any_single (runs_of bs) ≡ has_single bs
 runs-any [] = refl
@@ -117,7 +107,7 @@ runs-any (b ∷ bs) = elim (cases_Bool (is_blank b)) [
   | inl k ↦ ap (λ c. any_single (cond c (runs_of bs) (cond (begins_word bs) (with_first_byte b (runs_of bs)) ((b ∷ []) ∷ runs_of bs)))) k ∙ runs-any bs ∙ ap (λ c. c || has_single bs) (sym (blank_not_single b k))
   | inr k ↦ ap (λ c. any_single (cond c (runs_of bs) (cond (begins_word bs) (with_first_byte b (runs_of bs)) ((b ∷ []) ∷ runs_of bs)))) k ∙ elim (cases_Bool (begins_word bs)) [
     | inl l ↦ ap (λ c. any_single (cond c (with_first_byte b (runs_of bs)) ((b ∷ []) ∷ runs_of bs))) l ∙ with_front-any b (runs_of bs) (runs_front bs l) ∙ ap (λ c. is_single b || c) (runs-any bs)
-    | inr l ↦ ap (λ c. any_single (cond c (with_first_byte b (runs_of bs)) ((b ∷ []) ∷ runs_of bs))) l ∙ ap (λ c. c || any_single (runs_of bs)) (or_none (is_single b)) ∙ ap (λ c. is_single b || c) (runs-any bs)
+    | inr l ↦ ap (λ c. any_single (cond c (with_first_byte b (runs_of bs)) ((b ∷ []) ∷ runs_of bs))) l ∙ ap (λ c. c || any_single (runs_of bs)) (or-false (is_single b)) ∙ ap (λ c. is_single b || c) (runs-any bs)
   ]
 ]
 
@@ -138,7 +128,7 @@ lexed-any (b ∷ bs) = elim (cases_Bool (is_blank b)) [
   | inl k ↦ ap (λ c. any_single (cond c (lexed bs) (cond (is_joining b && begins_joining bs) (with_first_byte b (lexed bs)) ((b ∷ []) ∷ lexed bs)))) k ∙ lexed-any bs ∙ ap (λ c. c || has_single bs) (sym (blank_not_single b k))
   | inr k ↦ ap (λ c. any_single (cond c (lexed bs) (cond (is_joining b && begins_joining bs) (with_first_byte b (lexed bs)) ((b ∷ []) ∷ lexed bs)))) k ∙ elim (cases_Bool (is_joining b && begins_joining bs)) [
     | inl l ↦ ap (λ c. any_single (cond c (with_first_byte b (lexed bs)) ((b ∷ []) ∷ lexed bs))) l ∙ with_front-any b (lexed bs) (lexed_front bs (and_parts (is_joining b) (begins_joining bs) l).1) ∙ ap (λ c. is_single b || c) (lexed-any bs)
-    | inr l ↦ ap (λ c. any_single (cond c (with_first_byte b (lexed bs)) ((b ∷ []) ∷ lexed bs))) l ∙ ap (λ c. c || any_single (lexed bs)) (or_none (is_single b)) ∙ ap (λ c. is_single b || c) (lexed-any bs)
+    | inr l ↦ ap (λ c. any_single (cond c (with_first_byte b (lexed bs)) ((b ∷ []) ∷ lexed bs))) l ∙ ap (λ c. c || any_single (lexed bs)) (or-false (is_single b)) ∙ ap (λ c. is_single b || c) (lexed-any bs)
   ]
 ]
 
@@ -146,9 +136,6 @@ lexed-any (b ∷ bs) = elim (cases_Bool (is_blank b)) [
 
 name_byte : (c : ℕ) → is_in_name c ≡ true → is_single c ≡ false
 name_byte c h = grind (arith, nat_tests)
-
-first_byte : (c : ℕ) → begins_name c ≡ true → is_in_name c ≡ true
-first_byte c h = ap (λ b. b || c == 46 || c == 91 || c == 93) h
 
 name_bytes : (cs : List ℕ) → list_all is_in_name cs ≡ true → has_single cs ≡ false
 name_bytes [] h = refl
@@ -161,7 +148,7 @@ name_single [] h = absurd (false≢true h)
 name_single (c ∷ cs) h =
     let p = and_parts (begins_name c && nat_le (length cs) 99) (list_all is_in_name cs) h in
     let q = and_parts (begins_name c) (nat_le (length cs) 99) p.0 in
-    ap (λ b. b || has_single cs) (name_byte c (first_byte c q.0)) ∙ name_bytes cs p.1
+    ap (λ b. b || has_single cs) (name_byte c (begins-in_name c q.0)) ∙ name_bytes cs p.1
 
 -- each of the signals has a name of the form
 abbrev pub AreNamed : List Signal → Type 0

@@ -25,7 +25,8 @@ abbrev pub row_group : NetLists → GroupRow → Group
 row_group n row = record { own = own_of n row; known = known_to n (own_of n row) }
 
 -- a group for each row
-abbrev pub row_groups : NetLists → Result (List GroupRow) GroupError → Result (List Group) GroupError
+abbrev pub row_groups :
+    NetLists → Result (List GroupRow) GroupError → Result (List Group) GroupError
 row_groups n (Ok rows) = Ok (map (row_group n) rows)
 row_groups n (Err e) = Err e
 

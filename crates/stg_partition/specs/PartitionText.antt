@@ -69,7 +69,8 @@ line_tested signals number before line =
 
 -- the refusal of a line, or else what comes of the later ones
 abbrev pub or_refused :
-    Result (Unit {0}) GroupError → Result (List GroupRow) GroupError → Result (List GroupRow) GroupError
+    Result (Unit {0}) GroupError → Result (List GroupRow) GroupError
+    → Result (List GroupRow) GroupError
 or_refused (Ok _) later = later
 or_refused (Err e) later = Err e
 

@@ -71,7 +71,8 @@ fn is_in_rows(rows: &[Seq<Word<'_>>], word: &[u8]) -> bool
 
 fn stood_before(rows: &[Seq<Word<'_>>], words: &[Word<'_>], word: &[u8]) -> bool
     ensures { result
-        ≡ graphs.is_among (lists.words_of_rows (all_texts rows.now) ++ texts_of words.now) word.now }
+        ≡ graphs.is_among (lists.words_of_rows (all_texts rows.now) ++ texts_of words.now)
+        word.now }
 {
     is_in_rows(rows, word) || is_among(words, word)
 }
