@@ -70,9 +70,9 @@ Completes (Measure n workers) old new = TellsMeasure n old new
 
 -- What WritesParts means, told without parts: the text stands for a specification; the component
 -- texts of some nets were put, with a file for its log beside each where logs are wanted, and no
--- other file has changed; these nets share out what the specification drives, each has exactly its traces on the
--- net's signals, and together they are a correct decomposition of it, where it is deterministic.
--- Each net is read back from its file.
+-- other file has changed; these nets share out what the specification drives, each has exactly its
+-- traces on the net's signals, and together they are a correct decomposition of it, where it is
+-- deterministic. Each net is read back from its file.
 pub record WritesComponents (d : Inputs) (steps : Bool) (old new : Seen) : Type 0 where
   pub text : List ℕ
   pub has_text : HasText d.spec text old.source

@@ -3,8 +3,8 @@
 ghost use Rattle.stg_crew.specs.Laws.{StartHasRule, SetKeepsRule, SplitKeepsRule, DrawKeepsRule, JoinKeepsRule};
 
 /// The rule of the claims holds when a table is made, and each step keeps it, whichever seats take
-/// it: the number of groups is set, a worker's seat is split off, a worker draws, a worker's seat is
-/// taken in. So it holds between any two steps.
+/// it: the number of groups is set, a worker's seat is split off, a worker draws, a worker's seat
+/// is taken in. So it holds between any two steps.
 pub fn law_claims()
     ensures start { StartHasRule }
     ensures set { SetKeepsRule }

@@ -24,8 +24,10 @@ use stg_partition::{Group, plain_groups};
 const TURNS: u32 = 50_000_000;
 
 /// Two handshakes that don't meet.
-const HANDSHAKES: &[u8] =
-    b".inputs r1 r2\n.outputs a1 a2\n.graph\nr1+ a1+\na1+ r1-\nr1- a1-\na1- r1+\nr2+ a2+\na2+ r2-\nr2- a2-\na2- r2+\n.marking { <a1-,r1+> <a2-,r2+> }\n.end\n";
+const HANDSHAKES: &[u8] = b".inputs r1 r2\n.outputs a1 a2\n.graph\n\
+    r1+ a1+\na1+ r1-\nr1- a1-\na1- r1+\n\
+    r2+ a2+\na2+ r2-\nr2- a2-\na2- r2+\n\
+    .marking { <a1-,r1+> <a2-,r2+> }\n.end\n";
 
 /// A specification with its plain groups.
 #[derive(Drop)]

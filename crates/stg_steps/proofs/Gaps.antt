@@ -3,7 +3,6 @@ use Rattle.std.proofs.Common.{◌≡◌, ℕ, ◌<◌, ◌^◌, ◌==◌, ◌&&�
 use Rattle.std.proofs.lemmas.Bool.{and_parts, and_from, or_left, true≢false, cases_eq, cases_Bool, ne_eqb}
 use Rattle.std.proofs.lemmas.Fmt.{digits_decimal}
 use Rattle.std.proofs.lemmas.Option.{slice_get-get_or}
-use Rattle.std.proofs.lemmas.Str.Parse.{IsNumeralModel, numerals_by_fold}
 use Rattle.std.specs.List.{list_all}
 use Rattle.std.specs.Option.{option_map_or}
 use Rattle.std.specs.Prelude.{decimal}
@@ -16,9 +15,10 @@ use Rattle.stg_net.specs.declared.signal.Signal.{Signal}
 use Rattle.stg_net.specs.declared.trans.Edge.{Edge}
 use Rattle.stg_net.specs.declared.trans.Edge.TheVariants.{Rise, Fall, Toggle}
 use Rattle.stg_net.specs.declared.trans.TransName.{TransName}
+use Rattle.stg_net.proofs.NameBytes.{not_at, name-bytes}
 use Rattle.astg_lex.proofs.ListLemmas.{all-append}
+use Rattle.astg_lex.proofs.DecimalLemmas.{numerals}
 use Rattle.stg_steps.specs.LogText.{word_at}
-use Rattle.stg_steps.specs.inner.Reading.{value_behind}
 
 -- no byte is c
 abbrev pub lacks : ℕ → List ℕ → Bool
@@ -47,33 +47,11 @@ line_feed = record { in_name = refl; digit = refl; sign = other; slash = refl }
     other Fall = refl
     other Toggle = refl
 
--- a test that passes here and not there tells the two apart
-not_at : (P : ℕ → Bool) (v c : ℕ) → P v ≡ false → P c ≡ true → (c == v) ≡ false
-not_at P v c h k = elim (cases_eq c v) [
-  | inl e ↦ absurd (true≢false (sym k ∙ ap P e ∙ h))
-  | inr n ↦ ne_eqb c v n
-]
-
 lacks-from : (P : ℕ → Bool) (c : ℕ) → P c ≡ false → (w : List ℕ) → list_all P w ≡ true → lacks c w ≡ true
 lacks-from P c h [] k = refl
 lacks-from P c h (b ∷ bs) k =
     let p = and_parts (P b) (list_all P bs) k in
     and_from (not (b == c)) (lacks c bs) (ap not (not_at P c b h p.0)) (lacks-from P c h bs p.1)
-
-begins-in_name : (c : ℕ) → begins_name c ≡ true → is_in_name c ≡ true
-begins-in_name c h = or_left (begins_name c || c == 46 || c == 91) (c == 93) (or_left (begins_name c || c == 46) (c == 91) (or_left (begins_name c) (c == 46) h))
-
--- a name has bytes of names
-pub name-bytes : (w : List ℕ) → is_name w ≡ true → list_all is_in_name w ≡ true
-name-bytes [] h = refl
-name-bytes (c ∷ cs) h =
-    let p = and_parts (begins_name c && nat_le (length cs) 99) (list_all is_in_name cs) h in
-    let q = and_parts (begins_name c) (nat_le (length cs) 99) p.0 in
-    and_from (is_in_name c) (list_all is_in_name cs) (begins-in_name c q.0) p.1
-
--- the model of numerals by which std's lemmas speak
-pub own : IsNumeralModel (λ ds. list_all is_digit ds ≡ true) (value_behind 0)
-own = numerals_by_fold _ (search rules) value_behind (search rules)
 
 module _ (c : ℕ) (gap : IsGap c) where
   -- words of bytes of names, and numbers
@@ -81,7 +59,7 @@ module _ (c : ℕ) (gap : IsGap c) where
   lacks-plain w h = lacks-from is_in_name c gap.in_name w h
 
   pub lacks-decimal : (k : ℕ) → k < 2 ^ 64 → lacks c (decimal k) ≡ true
-  lacks-decimal k h = lacks-from is_digit c gap.digit (decimal k) (digits_decimal own k h)
+  lacks-decimal k h = lacks-from is_digit c gap.digit (decimal k) (digits_decimal numerals k h)
 
   lacks-index : (k : ℕ) → k < 1000000000 → lacks c (index_text k) ≡ true
   lacks-index k h = elim (cases_Bool (k == 0)) [

@@ -3,15 +3,16 @@ use Rattle.std.proofs.Common.{◌≡◌, ◌<◌, ◌+◌, ◌==◌, ℕ, suc, B
 use Rattle.std.proofs.lemmas.Bool.{cases_Bool, false≢true, and_parts, and_from, not-true, eqb-true, eq-eqb}
 use Rattle.std.specs.List.{list_all, position_or_len}
 use Rattle.astg_lex.proofs.ListLemmas.{drop-none, all-append}
-use Rattle.stg_steps.specs.inner.Reading.{pieces, with_front}
+use Rattle.stg_steps.specs.inner.Reading.{pieces}
+use Rattle.astg_lex.specs.Lines.{with_byte}
 use Rattle.stg_steps.specs.LogText.{LogRow, spaced, line_of}
 use Rattle.stg_steps.proofs.Gaps.{lacks}
 
 stops : (c b : ℕ) (bs : List ℕ) → (b == c) ≡ true → pieces c (b ∷ bs) ≡ [] ∷ pieces c bs
-stops c b bs k = ap (λ s. cond s ([] ∷ pieces c bs) (with_front b (pieces c bs))) k
+stops c b bs k = ap (λ s. cond s ([] ∷ pieces c bs) (with_byte b (pieces c bs))) k
 
-goes : (c b : ℕ) (bs : List ℕ) → (b == c) ≡ false → pieces c (b ∷ bs) ≡ with_front b (pieces c bs)
-goes c b bs k = ap (λ s. cond s ([] ∷ pieces c bs) (with_front b (pieces c bs))) k
+goes : (c b : ℕ) (bs : List ℕ) → (b == c) ≡ false → pieces c (b ∷ bs) ≡ with_byte b (pieces c bs)
+goes c b bs k = ap (λ s. cond s ([] ∷ pieces c bs) (with_byte b (pieces c bs))) k
 
 -- how many bytes stand before the first c
 abbrev pub piece_length : ℕ → List ℕ → ℕ
@@ -28,7 +29,7 @@ pub pieces-last : (c : ℕ) (bs : List ℕ) → piece_length c bs ≡ length bs 
 pieces-last c [] e = refl
 pieces-last c (b ∷ bs) e = elim (cases_Bool (b == c)) [
   | inl k ↦ absurd (omega (arith, e, no_length c b bs k))
-  | inr k ↦ goes c b bs k ∙ ap (with_front b) (pieces-last c bs (omega (arith, e, more_length c b bs k)))
+  | inr k ↦ goes c b bs k ∙ ap (with_byte b) (pieces-last c bs (omega (arith, e, more_length c b bs k)))
 ]
 
 -- else the first piece ends before the stop
@@ -36,7 +37,7 @@ first : (c : ℕ) (bs : List ℕ) → piece_length c bs < length bs → pieces c
 first c [] lt = absurd (omega (arith, lt))
 first c (b ∷ bs) lt = elim (cases_Bool (b == c)) [
   | inl k ↦ stops c b bs k ∙ ap (λ xs. [] ∷ pieces c xs) (sym (drop-none bs)) ∙ sym (ap (λ n. take n (b ∷ bs) ∷ pieces c (drop (suc n) (b ∷ bs))) (no_length c b bs k))
-  | inr k ↦ goes c b bs k ∙ ap (with_front b) (first c bs (omega (arith, lt, more_length c b bs k))) ∙ sym (ap (λ n. take n (b ∷ bs) ∷ pieces c (drop (suc n) (b ∷ bs))) (more_length c b bs k))
+  | inr k ↦ goes c b bs k ∙ ap (with_byte b) (first c bs (omega (arith, lt, more_length c b bs k))) ∙ sym (ap (λ n. take n (b ∷ bs) ∷ pieces c (drop (suc n) (b ∷ bs))) (more_length c b bs k))
 ]
 
 pub pieces-first : (c : ℕ) (bs : List ℕ) (k : ℕ) → k ≡ piece_length c bs → k < length bs → pieces c bs ≡ take k bs ∷ pieces c (drop (k + 1) bs)
@@ -72,37 +73,37 @@ abbrev pub has_front : LogRow → Bool
 has_front [] = false
 has_front (w ∷ ws) = true
 
-with_front-front : (b : ℕ) (ws : LogRow) → has_front (with_front b ws) ≡ true
-with_front-front b [] = refl
-with_front-front b (w ∷ ws) = refl
+with_byte-front : (b : ℕ) (ws : LogRow) → has_front (with_byte b ws) ≡ true
+with_byte-front b [] = refl
+with_byte-front b (w ∷ ws) = refl
 
 pub pieces_front : (c : ℕ) (bs : List ℕ) → has_front (pieces c bs) ≡ true
 pieces_front c [] = refl
 pieces_front c (b ∷ bs) = elim (cases_Bool (b == c)) [
   | inl k ↦ ap has_front (stops c b bs k)
-  | inr k ↦ ap has_front (goes c b bs k) ∙ with_front-front b (pieces c bs)
+  | inr k ↦ ap has_front (goes c b bs k) ∙ with_byte-front b (pieces c bs)
 ]
 
 tailed-front : (c : ℕ) (ws : LogRow) → has_front ws ≡ true → tailed c ws ≡ c ∷ parted c ws
 tailed-front c [] h = absurd (false≢true h)
 tailed-front c (w ∷ ws) h = refl
 
-parted-with_front : (c b : ℕ) (ws : LogRow) → parted c (with_front b ws) ≡ b ∷ parted c ws
-parted-with_front c b [] = refl
-parted-with_front c b (w ∷ ws) = refl
+parted-with_byte : (c b : ℕ) (ws : LogRow) → parted c (with_byte b ws) ≡ b ∷ parted c ws
+parted-with_byte c b [] = refl
+parted-with_byte c b (w ∷ ws) = refl
 
 -- the pieces of bytes make up these bytes
 pub parted-pieces : (c : ℕ) (bs : List ℕ) → parted c (pieces c bs) ≡ bs
 parted-pieces c [] = refl
 parted-pieces c (b ∷ bs) = elim (cases_Bool (b == c)) [
   | inl k ↦ ap (parted c) (stops c b bs k) ∙ tailed-front c (pieces c bs) (pieces_front c bs) ∙ (λ j. sym (eqb-true b c k) j ∷ parted-pieces c bs j)
-  | inr k ↦ ap (parted c) (goes c b bs k) ∙ parted-with_front c b (pieces c bs) ∙ ap (λ xs. b ∷ xs) (parted-pieces c bs)
+  | inr k ↦ ap (parted c) (goes c b bs k) ∙ parted-with_byte c b (pieces c bs) ∙ ap (λ xs. b ∷ xs) (parted-pieces c bs)
 ]
 
 -- no piece has the byte
-lacks-with_front : (c b : ℕ) (ws : LogRow) → (b == c) ≡ false → list_all (lacks c) ws ≡ true → list_all (lacks c) (with_front b ws) ≡ true
-lacks-with_front c b [] k h = and_from (lacks c (b ∷ [])) true (and_from (not (b == c)) true (ap not k) refl) refl
-lacks-with_front c b (w ∷ ws) k h =
+lacks-with_byte : (c b : ℕ) (ws : LogRow) → (b == c) ≡ false → list_all (lacks c) ws ≡ true → list_all (lacks c) (with_byte b ws) ≡ true
+lacks-with_byte c b [] k h = and_from (lacks c (b ∷ [])) true (and_from (not (b == c)) true (ap not k) refl) refl
+lacks-with_byte c b (w ∷ ws) k h =
     let p = and_parts (lacks c w) (list_all (lacks c) ws) h in
     and_from (lacks c (b ∷ w)) (list_all (lacks c) ws) (and_from (not (b == c)) (lacks c w) (ap not k) p.0) p.1
 
@@ -110,7 +111,7 @@ pub lacks-pieces : (c : ℕ) (bs : List ℕ) → list_all (lacks c) (pieces c bs
 lacks-pieces c [] = refl
 lacks-pieces c (b ∷ bs) = elim (cases_Bool (b == c)) [
   | inl k ↦ ap (list_all (lacks c)) (stops c b bs k) ∙ lacks-pieces c bs
-  | inr k ↦ ap (list_all (lacks c)) (goes c b bs k) ∙ lacks-with_front c b (pieces c bs) k (lacks-pieces c bs)
+  | inr k ↦ ap (list_all (lacks c)) (goes c b bs k) ∙ lacks-with_byte c b (pieces c bs) k (lacks-pieces c bs)
 ]
 
 -- a first piece without the byte
@@ -118,13 +119,13 @@ pub pieces-more : (c : ℕ) (w rest : List ℕ) → lacks c w ≡ true → piece
 pieces-more c [] rest h = stops c c rest (eq-eqb c c refl)
 pieces-more c (b ∷ bs) rest h =
     let p = and_parts (not (b == c)) (lacks c bs) h in
-    goes c b (bs ++ c ∷ rest) (not-true (b == c) p.0) ∙ ap (with_front b) (pieces-more c bs rest p.1)
+    goes c b (bs ++ c ∷ rest) (not-true (b == c) p.0) ∙ ap (with_byte b) (pieces-more c bs rest p.1)
 
 pieces-alone : (c : ℕ) (w : List ℕ) → lacks c w ≡ true → pieces c w ≡ w ∷ []
 pieces-alone c [] h = refl
 pieces-alone c (b ∷ bs) h =
     let p = and_parts (not (b == c)) (lacks c bs) h in
-    goes c b bs (not-true (b == c) p.0) ∙ ap (with_front b) (pieces-alone c bs p.1)
+    goes c b bs (not-true (b == c) p.0) ∙ ap (with_byte b) (pieces-alone c bs p.1)
 
 -- pieces without the byte are those of what they make up
 pub pieces-parted : (c : ℕ) (w : List ℕ) (ws : LogRow) → list_all (lacks c) (w ∷ ws) ≡ true → pieces c (parted c (w ∷ ws)) ≡ w ∷ ws

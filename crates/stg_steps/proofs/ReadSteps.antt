@@ -9,12 +9,13 @@ use Rattle.stg_net.specs.Net.{NetLists}
 use Rattle.stg_steps.specs.declared.log.Log.{Log}
 use Rattle.stg_steps.specs.LogText.{LogRow, word_at}
 use Rattle.stg_net.specs.Ordered.{listed_below}
-use Rattle.stg_steps.specs.inner.Reading.{pieces, with_front, trans_words, with_row, is_over, or_bad, log_after, log_in}
+use Rattle.astg_lex.specs.Lines.{with_byte}
+use Rattle.stg_steps.specs.inner.Reading.{pieces, trans_words, with_row, is_over, or_bad, log_after, log_in}
 use Rattle.stg_steps.specs.inner.Taking.{TakesLine}
 use Rattle.stg_steps.proofs.FirstLines.{line_ends-more, line_ends-same}
 use Rattle.stg_steps.proofs.Pieces.{piece_length, no_length, more_length, has_front, pieces_front, pieces-last, pieces-first}
 
-not_over-front : (b : ℕ) (ws : LogRow) → is_over (with_front b ws) ≡ false
+not_over-front : (b : ℕ) (ws : LogRow) → is_over (with_byte b ws) ≡ false
 not_over-front b [] = refl
 not_over-front b (w ∷ ws) = refl
 
@@ -26,8 +27,8 @@ not_over-more (w ∷ ws) h = refl
 pub not_over : (bs : List ℕ) → (bs ≡ [] → ⊥) → is_over (pieces 10 bs) ≡ false
 not_over [] some = absurd (some refl)
 not_over (b ∷ bs) some = elim (cases_Bool (b == 10)) [
-  | inl k ↦ ap (λ s. is_over (cond s ([] ∷ pieces 10 bs) (with_front b (pieces 10 bs)))) k ∙ not_over-more (pieces 10 bs) (pieces_front 10 bs)
-  | inr k ↦ ap (λ s. is_over (cond s ([] ∷ pieces 10 bs) (with_front b (pieces 10 bs)))) k ∙ not_over-front b (pieces 10 bs)
+  | inl k ↦ ap (λ s. is_over (cond s ([] ∷ pieces 10 bs) (with_byte b (pieces 10 bs)))) k ∙ not_over-more (pieces 10 bs) (pieces_front 10 bs)
+  | inr k ↦ ap (λ s. is_over (cond s ([] ∷ pieces 10 bs) (with_byte b (pieces 10 bs)))) k ∙ not_over-front b (pieces 10 bs)
 ]
 
 -- the lines taken so far

@@ -12,6 +12,7 @@ use Rattle.std.specs.Str.{bytes_eq}
 use Rattle.stg_net.specs.Names.{is_in_name, IsWellNamed}
 use Rattle.stg_net.specs.Net.{NetLists, IsNet, signal_at, trans_at}
 use Rattle.stg_net.specs.Ordered.{listed_below}
+use Rattle.stg_net.proofs.Listed.{length-listed, get-listed, position-listed, position-unlisted}
 use Rattle.stg_net.specs.Words.{sign_of, index_text}
 use Rattle.stg_net.specs.declared.trans.Edge.{Edge}
 use Rattle.stg_net.specs.declared.trans.Edge.TheVariants.{Rise, Fall, Toggle}
@@ -71,34 +72,6 @@ index_same j k hj hk e = elim (cases_Bool (j == 0)) [
   ]
 ]
 
--- what is listed one by one
-length-listed : {X : Type 0} (g : ℕ → X) (n : ℕ) → length (listed_below (λ k. g k ∷ []) n) ≡ n
-length-listed g zero = refl
-length-listed g (suc n) = let e = length-append (listed_below (λ k. g k ∷ []) n) (g n ∷ []) in omega (arith, e, length-listed g n)
-
-get-listed : {X : Type 0} (g : ℕ → X) (n k : ℕ) (d : X) → k < n → get_or (listed_below (λ i. g i ∷ []) n) k d ≡ g k
-get-listed g zero k d b = absurd (omega (arith, b))
-get-listed g (suc n) k d b = elim (cases_eq k n) [
-  | inl e ↦ get_or_at (listed_below (λ i. g i ∷ []) n) (g n) [] d k (omega (arith, length-listed g n, e)) ∙ ap g (sym e)
-  | inr a ↦ get_or_append_left (listed_below (λ i. g i ∷ []) n) (g n ∷ []) d k (omega (arith, length-listed g n, b, a)) ∙ get-listed g n k d (omega (arith, b, a))
-]
-
-position-listed : {X : Type 0} (f : X → Bool) (g : ℕ → X) (n k : ℕ) → k < n → f (g k) ≡ true → ((j : ℕ) → j < k → f (g j) ≡ false) → position f (listed_below (λ i. g i ∷ []) n) ≡ Some k
-position-listed f g n k b h before =
-    let xs = listed_below (λ i. g i ∷ []) n in
-    let long = length-listed g n in
-    let at : position_or_len f xs ≡ k = position_or_len_is f xs k (g 0) (omega (arith, long, b))
-    (λ j jb. ap f (get-listed g n j (g 0) (omega (arith, jb, b))) ∙ before j jb) (λ _. ap f (get-listed g n k (g 0) b) ∙ h) in
-    ap (λ m. cond (nat_lt m (length xs)) (Some m) None) at ∙ ap (λ t. cond t (Some k) None) (lt-ltb k (length xs) (omega (arith, long, b)))
-
-position-unlisted : {X : Type 0} (f : X → Bool) (g : ℕ → X) (n : ℕ) → ((j : ℕ) → j < n → f (g j) ≡ false) → position f (listed_below (λ i. g i ∷ []) n) ≡ None
-position-unlisted f g n none =
-    let xs = listed_below (λ i. g i ∷ []) n in
-    let long = length-listed g n in
-    let at : position_or_len f xs ≡ n = position_or_len_is f xs n (g 0) (omega (arith, long))
-    (λ j jb. ap f (get-listed g n j (g 0) jb) ∙ none j jb) (λ b. absurd (omega (arith, b, long))) in
-    ap (λ m. cond (nat_lt m (length xs)) (Some m) None) at ∙ ap (λ t. cond t (Some n) None) (le-ltb n (length xs) (omega (arith, long)))
-
 module _ (n : NetLists) (net : IsNet n) (named : IsWellNamed n) where
   name_same : (r s : ℕ) → r < length n.signals → s < length n.signals → (signal_at n.signals r).name ≡ (signal_at n.signals s).name → r ≡ s
   name_same r s hr hs e = elim (cases_order r s) [
@@ -138,11 +111,11 @@ module _ (n : NetLists) (net : IsNet n) (named : IsWellNamed n) where
 
   -- a transition's word stands at its number
   pub place_in-word : (t : ℕ) → t < length n.trans → place_in (trans_words n) (word_at n t) ≡ Some t
-  place_in-word t h = position-listed (λ x. bytes_eq (word_at n t) x) (word_at n) (length n.trans) t h ((bytes_eq-Decides (word_at n t) (word_at n t)).1 refl) (λ j b. other_word t j h b)
+  place_in-word t h = position-listed (word_at n) (λ x. bytes_eq (word_at n t) x) (length n.trans) t h ((bytes_eq-Decides (word_at n t) (word_at n t)).1 refl) (λ j b. other_word t j h b)
 
   -- and is none of those before it
   pub place_in-new : (t : ℕ) → t < length n.trans → place_in (listed_below (λ u. word_at n u ∷ []) t) (word_at n t) ≡ None
-  place_in-new t h = position-unlisted (λ x. bytes_eq (word_at n t) x) (word_at n) t (λ j b. other_word t j h b)
+  place_in-new t h = position-unlisted (word_at n) (λ x. bytes_eq (word_at n t) x) t (λ j b. other_word t j h b)
 
 -- a word that has a place is the word of the transition there
 pub place_in-told : (n : NetLists) (w : List ℕ) (t : ℕ) → place_in (trans_words n) w ≡ Some t → (t < length n.trans) × (w ≡ word_at n t)

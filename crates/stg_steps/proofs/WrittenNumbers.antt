@@ -6,8 +6,9 @@ use Rattle.std.proofs.lemmas.Str.Parse.{digits_value_short}
 use Rattle.std.specs.List.{list_all}
 use Rattle.std.specs.Prelude.{decimal}
 use Rattle.stg_net.specs.Names.{is_digit}
-use Rattle.stg_steps.specs.inner.Reading.{value_behind, has_leading_zero, is_log_number, number_in}
-use Rattle.stg_steps.proofs.Gaps.{own}
+use Rattle.astg_lex.specs.Numbers.{value_after, is_number, number}
+use Rattle.astg_lex.proofs.DecimalLemmas.{numerals, number-decimal}
+use Rattle.stg_steps.specs.inner.Reading.{has_leading_zero, number_in}
 
 -- a first zero stands alone
 no_leading : (w : List ℕ) → (get_or w 0 0 ≡ 48 → length w ≡ 1) → has_leading_zero w ≡ false
@@ -28,18 +29,7 @@ first_alone k h z = elim (cases_eq k 0) [
 
 -- a written number is read as itself
 pub number_in-decimal : (k : ℕ) → k < 1000000000 → number_in (decimal k) ≡ Some k
-number_in-decimal k h =
-    let w = decimal k in
-    let fits : k < 2 ^ 64 = omega (arith, h) in
-    let at_least = decimal_nonempty k fits in
-    let at_most : length w ≤ 9 = length-decimal-le 9 k (omega arith) (omega (arith, h)) fits in
-    let test : is_log_number w ≡ true =
-    and_from (nat_le 1 (length w) && nat_le (length w) 9 && list_all is_digit w) (not (has_leading_zero w))
-    (and_from (nat_le 1 (length w) && nat_le (length w) 9) (list_all is_digit w)
-    (and_from (nat_le 1 (length w)) (nat_le (length w) 9) (le-leb 1 (length w) (omega (arith, at_least))) (le-leb (length w) 9 at_most))
-    (digits_decimal own k fits))
-    (ap not (no_leading w (first_alone k h))) in
-    ap (λ b. cond b (Some (value_behind 0 w)) None) test ∙ ap Some (digits_value-decimal own k fits)
+number_in-decimal k h = ap (λ b. cond b None (number (decimal k))) (no_leading (decimal k) (first_alone k h)) ∙ number-decimal k h
 
 some_same : {X : Type 0} (a b : X) → Some a ≡ Some b → a ≡ b
 some_same a b e = cc
@@ -49,16 +39,20 @@ some_none a e = cc
 
 -- a word that is read as a number is that number, written
 pub number_in-told : (w : List ℕ) (k : ℕ) → number_in w ≡ Some k → (k < 1000000000) × (w ≡ decimal k)
-number_in-told w k e = elim (cases_Bool (is_log_number w)) [
-  | inl test ↦
-      let p = and_parts (nat_le 1 (length w) && nat_le (length w) 9 && list_all is_digit w) (not (has_leading_zero w)) test in
-      let q = and_parts (nat_le 1 (length w) && nat_le (length w) 9) (list_all is_digit w) p.0 in
-      let r = and_parts (nat_le 1 (length w)) (nat_le (length w) 9) q.0 in
-      let value : value_behind 0 w ≡ k = some_same (value_behind 0 w) k (sym (ap (λ b. cond b (Some (value_behind 0 w)) None) test) ∙ e) in
-      let some = leb-true 1 (length w) r.0 in
-      let small : value_behind 0 w < 10 ^ 9 = digits_value_short own w 9 q.1 (leb-true (length w) 9 r.1) in (
-        omega (arith, value, small),
-        sym (decimal-digits_value own w q.1 (omega (arith, some)) (alone w (not-true (has_leading_zero w) p.1)) (omega (arith, small))) ∙ ap decimal value,
-      )
-  | inr test ↦ absurd (some_none k (sym (ap (λ b. cond b (Some (value_behind 0 w)) None) test) ∙ e))
+number_in-told w k e = elim (cases_Bool (has_leading_zero w)) [
+  | inl zero ↦ absurd (some_none k (sym (ap (λ b. cond b None (number w)) zero) ∙ e))
+  | inr lone ↦
+      let read : number w ≡ Some k = sym (ap (λ b. cond b None (number w)) lone) ∙ e in
+      elim (cases_Bool (is_number w)) [
+        | inl test ↦
+            let q = and_parts (nat_le 1 (length w) && nat_le (length w) 9) (list_all is_digit w) test in
+            let r = and_parts (nat_le 1 (length w)) (nat_le (length w) 9) q.0 in
+            let value : value_after 0 w ≡ k = some_same (value_after 0 w) k (sym (ap (λ b. cond b (Some (value_after 0 w)) None) test) ∙ read) in
+            let some = leb-true 1 (length w) r.0 in
+            let small : value_after 0 w < 10 ^ 9 = digits_value_short numerals w 9 q.1 (leb-true (length w) 9 r.1) in (
+              omega (arith, value, small),
+              sym (decimal-digits_value numerals w q.1 (omega (arith, some)) (alone w lone) (omega (arith, small))) ∙ ap decimal value,
+            )
+        | inr test ↦ absurd (some_none k (sym (ap (λ b. cond b (Some (value_after 0 w)) None) test) ∙ read))
+      ]
 ]

@@ -124,9 +124,8 @@ fn read_lines(alloc: Global, net: &Net, words: &TransWords, text: &[u8]) -> Resu
 }
 
 /// Reads a log as `write_steps` writes it. Where the text is none, the error has the number, from 1
-/// on, of the first line that isn't of the form; where only the last line is wrong, as it isn't
-/// ended by LF or isn't `end`, it is that after the last LF. Whether the steps can be done isn't
-/// asked.
+/// on, of the first line that isn't of the form; where all lines are, but `end` is missing or isn't
+/// ended by LF, it is that after the last LF. Whether the steps can be done isn't asked.
 pub fn read_steps(alloc: Global, spec: &Spec, text: &[u8]) -> Result<Log, StepError>
     requires { line_ends text.now < 4294967295 }
     ensures ok { IfOk result (λ log. IsLogOf spec.now.net text.now log) }

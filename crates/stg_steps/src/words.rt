@@ -1,12 +1,12 @@
 //! The words of a log's lines.
 
 ghost use Rattle.std.specs.Prelude.{◌≡◌, ◌==◌, ◌≤◌, ◌<◌, ◌+◌, ◌^◌, [], ◌∷◌, ◌++◌, true, length, map, take, drop, IfOk, IfSome, OnOk, None};
-ghost use Rattle.std.specs.List.{list_all, position_or_len};
-ghost use Rattle.stg_net.specs.Names as forms;
+ghost use Rattle.std.specs.List.{position_or_len};
 ghost use Rattle.stg_net.specs.Names.{IsWellNamed};
 ghost use Rattle.stg_steps.specs.inner.Reading as reading;
 ghost use Rattle.stg_steps.specs.inner.Taking.{lent_words};
 
+use astg_lex::number;
 use indexmap::IndexMap;
 use std::alloc::Global;
 use std::marker::Model;
@@ -53,18 +53,6 @@ pub(crate) fn split_words<'a>(alloc: Global, line: &'a [u8]) -> Result<Seq<&'a [
     }
 }
 
-fn is_digit(c: u8) -> bool
-    ensures { result ≡ forms.is_digit c }
-{
-    c.is_ascii_digit()
-}
-
-fn all_digits(bytes: &[u8]) -> bool
-    ensures { result ≡ list_all forms.is_digit bytes.now }
-{
-    bytes.iter().all(|c| is_digit(*c))
-}
-
 fn has_leading_zero(word: &[u8]) -> bool
     ensures { result ≡ reading.has_leading_zero word.now }
 {
@@ -74,32 +62,14 @@ fn has_leading_zero(word: &[u8]) -> bool
     }
 }
 
-fn is_log_number(word: &[u8]) -> bool
-    ensures { result ≡ reading.is_log_number word.now }
-{
-    1 <= word.len() && word.len() <= 9 && all_digits(word) && !has_leading_zero(word)
-}
-
-fn value(digits: &[u8]) -> u32
-    requires few { length digits.now ≤ 9 }
-    requires all { list_all forms.is_digit digits.now ≡ true }
-    ensures { result ≡ reading.value_behind 0 digits.now }
-{
-    let mut n = 0;
-    for c in digits {
-        n = n * 10 + (*c - b'0') as u32;
-    }
-    n
-}
-
 /// The number of a word.
 pub(crate) fn number_in(word: &[u8]) -> Option<u32>
     ensures { result ≡ reading.number_in word.now }
 {
-    if is_log_number(word) {
-        Some(value(word))
-    } else {
+    if has_leading_zero(word) {
         None
+    } else {
+        number(word)
     }
 }
 

@@ -1,9 +1,9 @@
 -- How a log is read: what each line tells, and the first line that tells nothing.
-use Rattle.std.specs.Prelude.{ℕ, Bool, true, false, not, ◌&&◌, ◌==◌, ◌+◌, ◌*◌, ◌-◌, unwrap_or, nat_le, List, [], ◌∷◌, ◌++◌, codes, length, position, Option, Some, None, option_map, Result, Ok, Err, if◌then◌else◌}
+use Rattle.std.specs.Prelude.{ℕ, Bool, true, false, ◌==◌, ◌+◌, unwrap_or, nat_le, List, [], ◌∷◌, ◌++◌, codes, length, position, Option, Some, None, option_map, Result, Ok, Err, if◌then◌else◌}
 use Rattle.std.specs.Str.{bytes_eq}
-use Rattle.std.specs.List.{list_all}
-use Rattle.stg_net.specs.Names.{is_digit}
 use Rattle.stg_net.specs.Net.{NetLists, signal_at, trans_at}
+use Rattle.astg_lex.specs.Lines.{with_byte}
+use Rattle.astg_lex.specs.Numbers.{number}
 use Rattle.stg_net.specs.Ordered.{listed_below}
 use Rattle.stg_contract.specs.declared.verdict.Verdict.{Verdict}
 use Rattle.stg_contract.specs.declared.verdict.Verdict.TheVariants as verdict
@@ -20,18 +20,9 @@ use Rattle.stg_steps.specs.declared.log.Log.{Log}
 use Rattle.stg_steps.specs.LogText.{LogRow, word_at}
 
 -- the pieces between the bytes c, those without bytes too
-abbrev pub with_front : ℕ → LogRow → LogRow
-with_front b [] = (b ∷ []) ∷ []
-with_front b (w ∷ ws) = (b ∷ w) ∷ ws
-
 abbrev pub pieces : ℕ → List ℕ → LogRow
 pieces c [] = [] ∷ []
-pieces c (b ∷ bs) = if b == c then [] ∷ pieces c bs else with_front b (pieces c bs)
-
--- the value of digits after others whose number is n
-abbrev pub value_behind : ℕ → List ℕ → ℕ
-value_behind n [] = n
-value_behind n (c ∷ cs) = value_behind (n * 10 + (c - 48)) cs
+pieces c (b ∷ bs) = if b == c then [] ∷ pieces c bs else with_byte b (pieces c bs)
 
 -- a first digit of 0 (48) with others after it
 abbrev pub has_leading_zero : List ℕ → Bool
@@ -39,14 +30,9 @@ has_leading_zero [] = false
 has_leading_zero (c ∷ []) = false
 has_leading_zero (c ∷ d ∷ cs) = c == 48
 
--- 1 to 9 digits without leading zeros
-abbrev pub is_log_number : List ℕ → Bool
-is_log_number w =
-    nat_le 1 (length w) && nat_le (length w) 9 && list_all is_digit w && not (has_leading_zero w)
-
--- the number of a word
+-- the number of 1 to 9 digits without leading zeros
 abbrev pub number_in : List ℕ → Option ℕ
-number_in w = if is_log_number w then Some (value_behind 0 w) else None
+number_in w = if has_leading_zero w then None else number w
 
 -- the words of the transitions, in the order of their numbers
 abbrev pub trans_words : NetLists → LogRow
