@@ -10,6 +10,7 @@ use Rattle.stg_edit.specs.Walks.{taken_places, given_places, taking_trans, givin
 use Rattle.stg_edit.specs.Replacing.{new_places, new_arcs}
 use Rattle.stg_edit.specs.Counted.{live_places, count_arcs}
 use Rattle.stg_edit.specs.Compacted.{live_trans, compacted, known_signals, net_signal}
+use Rattle.stg_edit.specs.Shown.{with_shown}
 
 abbrev place : ℕ → List ℕ → List ℕ → Option Place
 place tokens taken given = Some (record { tokens = tokens; taken = taken; given = given })
@@ -82,3 +83,11 @@ signals = signal 104 Internal ∷ signal 120 Output ∷ signal 98 Internal ∷ s
 -- x and b are own, a isn't, h isn't known
 makes_signals : map (net_signal signals (1 ∷ 2 ∷ [])) (known_signals signals after) ≡ signal 120 Output ∷ signal 98 Internal ∷ signal 97 Input ∷ []
 makes_signals = refl
+
+-- once h is shown, the known signals stand in the net's order
+shows_h : (with_shown signals 0 graph).known ≡ (104 ∷ []) ∷ (120 ∷ []) ∷ (98 ∷ []) ∷ (97 ∷ []) ∷ []
+shows_h = refl
+
+-- a known one is shown
+shows_x : (with_shown signals 1 graph).known ≡ (120 ∷ []) ∷ (98 ∷ []) ∷ (97 ∷ []) ∷ []
+shows_x = refl

@@ -19,4 +19,5 @@ pub mod PresetRemoval
 pub mod Replacing
 pub mod RowMerge
 pub mod RowStep
+pub mod Showing
 pub mod SizeLoops

@@ -3,6 +3,7 @@ pub mod Counted
 pub mod Drafts
 pub mod Editing
 pub mod Replacing
+pub mod Shown
 pub mod Walks
 pub mod Worn
 pub mod inner

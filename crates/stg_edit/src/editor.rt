@@ -1,6 +1,6 @@
 //! The editor: a graph under work, and its earlier drafts.
 
-ghost use Rattle.std.specs.Prelude.{◌≡◌, ◌≢◌, ◌<◌, ◌≤◌, ◌↔◌, ◌+◌, ◌-◌, ◌^◌, ◌++◌, ◌∷◌, [], ℕ, Some, length, min, All, AllPairs, IfOk, OnOk, OnErr, IsTrue};
+ghost use Rattle.std.specs.Prelude.{◌≡◌, ◌≢◌, ◌<◌, ◌≤◌, ◌↔◌, ◌+◌, ◌-◌, ◌^◌, ◌++◌, ◌∷◌, [], ℕ, Some, length, map, min, All, AllPairs, IfOk, OnOk, OnErr, IsTrue};
 ghost use Rattle.stg_net.specs.declared.limits.TheConstants.Limits.{PART};
 ghost use Rattle.stg_net.specs.declared.signal.Signal.{Signal as ThisSignal};
 ghost use Rattle.stg_net.specs.Net.{IsNet, IsWithin, signal_at};
@@ -14,13 +14,14 @@ ghost use Rattle.stg_edit.specs.Walks.{taken_places, given_places, taking_trans,
 ghost use Rattle.stg_edit.specs.Counted.{live_places, count_arcs};
 ghost use Rattle.stg_edit.specs.Editing.{IsAsMuch, less, one_edit_less, full_name_in};
 ghost use Rattle.stg_edit.specs.Replacing.{new_places, new_arcs, IsSmallPair};
+ghost use Rattle.stg_edit.specs.Shown.{with_shown};
 
 use crate::build::build;
 use crate::compact::{list_arcs, list_names, list_places, list_signals, list_tokens, list_trans};
 use crate::edit_start::{EditStart, edit_start};
 use crate::pair_places::add_pair_places;
 use crate::round::remove_round;
-use crate::signals::{copy_signals, known_flags, net_signals};
+use crate::signals::{copy_signals, known_flags, known_numbers, list_flagged, net_signals};
 use crate::size::{Size, size_at, size_from, size_round};
 use crate::wear::Wear;
 use std::alloc::Global;
@@ -36,7 +37,8 @@ pub struct Editor {
     arena: Arena,
     signals: Seq<Signal>,
     names: Seq<TransName>,
-    known: Nums,
+    /// The numbers of the known signals, with room for all.
+    known: Vec<u32>,
     /// For each signal, whether it is known.
     is_known: Vec<bool>,
     starts: Vec<EditStart>,
@@ -79,7 +81,7 @@ impl Editor {
             arena,
             signals: copy_signals(alloc, net.signals())?,
             names: Seq::from_slice(alloc, net.trans())?,
-            known: Seq::from_slice(alloc, known.as_slice())?,
+            known: known_numbers(alloc, net.signals().len(), known.as_slice())?,
             is_known: known_flags(alloc, net.signals().len(), known.as_slice())?,
             starts: Vec::new(alloc),
             size,
@@ -346,6 +348,20 @@ impl Editor {
         self.arena.pop_to(start.cells);
         self.size = self.sizes.take_last();
         self.undone = self.undone.saturating_add(1);
+    }
+
+    /// Makes a signal known in the draft and in the drafts before each edit. Takes time for the
+    /// signals of the net.
+    pub fn show(&mut self, signal: u32)
+        requires { signal < length self.old.signals }
+        ensures now { self.new.now ≡ with_shown self.old.signals signal self.old.now }
+        ensures past { self.new.past ≡ map (with_shown self.old.signals signal) self.old.past }
+        ensures spare { self.new.spare ≡ self.old.spare }
+        ensures undone { self.new.undone ≡ self.old.undone }
+        ensures signals { self.new.signals ≡ self.old.signals }
+    {
+        self.is_known[signal as usize] = true;
+        list_flagged(&mut self.known, self.is_known.as_slice());
     }
 
     /// Makes the net of the draft: the known signals, where the own ones alone keep their kinds and

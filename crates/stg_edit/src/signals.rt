@@ -1,7 +1,8 @@
 //! The signals of an editor's net, and which of them are known.
 
-ghost use Rattle.std.specs.Prelude.{◌≡◌, ◌==◌, ◌<◌, ℕ, false, All, IfOk, length, map, slice_index_or};
+ghost use Rattle.std.specs.Prelude.{◌≡◌, ◌==◌, ◌<◌, ◌≤◌, ◌^◌, ℕ, false, All, IfOk, length, map, slice_index_or, vec_capacity};
 ghost use Rattle.std.specs.List.{list_any};
+ghost use Rattle.stg_net.specs.Ordered.{numbers_where};
 ghost use Rattle.stg_edit.specs.Compacted.{net_signal};
 
 use std::alloc::Global;
@@ -30,6 +31,32 @@ pub fn known_flags(alloc: Global, signals: usize, known: &[u32]) -> Result<Vec<b
         flags[*signal as usize] = true;
     }
     Ok(flags)
+}
+
+/// A copy of these numbers of signals, with room for all signals.
+pub fn known_numbers(alloc: Global, signals: usize, known: &[u32]) -> Result<Vec<u32>, NoMemory>
+    ensures items { IfOk result (λ v. v.items ≡ known.now) }
+    ensures room { IfOk result (λ v. signals ≤ vec_capacity v) }
+{
+    let mut numbers = Vec::with_capacity(alloc, signals)?;
+    numbers.extend_from_slice(known)?;
+    Ok(numbers)
+}
+
+/// Lists the numbers of the signals that are flagged, in place of those in the list.
+pub fn list_flagged(numbers: &mut Vec<u32>, flags: &[bool])
+    requires few { length flags.now < 2 ^ 32 }
+    requires room { length flags.now ≤ vec_capacity numbers.old }
+    ensures items { numbers.new.items
+        ≡ numbers_where (λ s. slice_index_or flags.now s false) (length flags.now) }
+    ensures room { vec_capacity numbers.new ≡ vec_capacity numbers.old }
+{
+    numbers.clear();
+    for s in 0..flags.len() as u32 {
+        if flags[s as usize] {
+            numbers.push_reserved(s);
+        }
+    }
 }
 
 /// The signal of that number, which keeps its kind where it is an own one.

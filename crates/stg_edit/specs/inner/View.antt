@@ -12,7 +12,7 @@ use Rattle.stg_edit.specs.Editing.{Editing, Spare, full_name_in}
 use Rattle.stg_edit.specs.inner.DraftAt.{Base, now_of, past_of, AreEditStarts}
 use Rattle.stg_edit.specs.inner.Sizes.{IsSized}
 
--- what stays the same through all edits
+-- what stays the same through all edits, until a signal is shown
 abbrev pub base_of : List Signal → List TransName → List ℕ → ℕ → Base
 base_of signals names known first = record {
   names = map (full_name_in signals) names;
@@ -20,9 +20,9 @@ base_of signals names known first = record {
   first_places = first;
 }
 
--- what stays the same through all edits of this editor
+-- what stays the same through all edits of this editor, until a signal is shown
 abbrev pub base : Inside → Base
-base e = base_of e.signals e.names e.known e.first_places
+base e = base_of e.signals e.names e.known.items e.first_places
 
 -- what is spare: a new place takes a cell of its own
 abbrev pub spare_of : Layout → ℕ → Spare
@@ -66,4 +66,5 @@ pub record IsEditor (e : Inside) : Type 0 where
   pub roomy : length e.arena.cells + (e.arena.rooms.places - length e.arena.places)
       ≤ e.arena.rooms.cells
   pub names_long : length e.names ≡ length e.arena.trans
-  pub named : IsNamed e.signals e.names e.known e.is_known.items
+  pub named : IsNamed e.signals e.names e.known.items e.is_known.items
+  pub known_room : length e.signals ≤ vec_capacity e.known

@@ -81,6 +81,7 @@ invariant_of-self c =
       roomy = omega (arith, c.self.invariant.roomy, ap length g.cells, g.as_many Place, ap (λ r. r.places) g.rooms, ap (λ r. r.cells) g.rooms);
       names_long = c.self.invariant.names_long ∙ sym (g.as_many Trans);
       named = c.self.invariant.named;
+      known_room = c.self.invariant.known_room;
       sizes_room = omega (arith, c.self.invariant.sizes_room, c.push_reserved-2.ensures.capacity);
       sized = record { now_sized = sized.0; past_sized = sized.1 };
     }

@@ -17,8 +17,8 @@ returns c =
     let b = c.index.result.now in
     let s = c.name-name.result.signal in
     let there : s < length e.signals = omega (arith, c.name-name.ensures.signal, ap (λ v. length v.signals) c.self.view_is) in
-    let is : b ≡ list_any (λ k. k == s) e.known = c.index.ensures ∙ get_or_default e.is_known.items s b false (omega (arith, c.self.invariant.named.flags_long)) ∙ c.self.invariant.named.flagged s in
+    let is : b ≡ list_any (λ k. k == s) e.known.items = c.index.ensures ∙ get_or_default e.is_known.items s b false (omega (arith, c.self.invariant.named.flags_long)) ∙ c.self.invariant.named.flagged s in
     let P : Editing → Type 0 = λ v. is_among v.now.known (signal_at v.signals s).name ≡ b in
-    let known = subst P c.self.view_is (among_known e.signals e.known s c.self.invariant.named.names_differ c.self.invariant.named.known_there there ∙ sym is) in
+    let known = subst P c.self.view_is (among_known e.signals e.known.items s c.self.invariant.named.names_differ c.self.invariant.named.known_there there ∙ sym is) in
     let dummy = dummy_now c.args.self.now.now c.args.t (full_name_in c.args.self.now.signals c.name-name.result) c.name-name.ensures.name in
     (λ hidden. dummy.0 (known ∙ not-true b hidden), λ is_dummy. not_from_false b (sym known ∙ dummy.1 is_dummy))

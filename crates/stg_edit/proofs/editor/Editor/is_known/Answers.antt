@@ -16,6 +16,6 @@ returns c =
     let b = c.index.result.now in
     let s = c.args.s in
     let there : s < length e.signals = omega (arith, c.requires, ap (λ v. length v.signals) c.self.view_is) in
-    let is : b ≡ list_any (λ k. k == s) e.known = c.index.ensures ∙ get_or_default e.is_known.items s b false (omega (arith, c.self.invariant.named.flags_long)) ∙ c.self.invariant.named.flagged s in
+    let is : b ≡ list_any (λ k. k == s) e.known.items = c.index.ensures ∙ get_or_default e.is_known.items s b false (omega (arith, c.self.invariant.named.flags_long)) ∙ c.self.invariant.named.flagged s in
     let P : Editing → Type 0 = λ v. b ≡ is_among v.now.known (signal_at v.signals s).name in
-    subst P c.self.view_is (is ∙ sym (among_known e.signals e.known s c.self.invariant.named.names_differ c.self.invariant.named.known_there there))
+    subst P c.self.view_is (is ∙ sym (among_known e.signals e.known.items s c.self.invariant.named.names_differ c.self.invariant.named.known_there there))

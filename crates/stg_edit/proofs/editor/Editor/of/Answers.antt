@@ -27,8 +27,8 @@ returns-clause-now c =
     let n = c.args.net.now in
     let signals = c.in_ok-copy_signals.ensures ∙ c.signals.ensures.signals in
     let names = c.in_ok-from_slice.ensures ∙ c.trans.ensures.trans in
-    let known = c.in_ok-from_slice-2.ensures ∙ c.as_slice.ensures in
-    initial_table n c.args.known.now (base_of c.in_ok-copy_signals.field-0 c.in_ok-from_slice.field-0 c.in_ok-from_slice-2.field-0 (length c.tokens.result.now)) c.in_ok-arena.arena c.in_ok-arena.ensures
+    let known = c.in_ok-known_numbers.ensures.items ∙ c.as_slice.ensures in
+    initial_table n c.args.known.now (base_of c.in_ok-copy_signals.field-0 c.in_ok-from_slice.field-0 c.in_ok-known_numbers.field-0.items (length c.tokens.result.now)) c.in_ok-arena.arena c.in_ok-arena.ensures
     (λ i. map (full_name_in (signals i)) (names i)) (λ i. map (λ s. (signal_at (signals i) s).name) (known i)) (ap length c.tokens.ensures.tokens)
 
 pub invariant_of-result : goal.invariant_of-result
@@ -39,7 +39,7 @@ invariant_of-result c =
     let net = c.signals.ensures.net in
     let signals = c.in_ok-copy_signals.ensures ∙ c.signals.ensures.signals in
     let names = c.in_ok-from_slice.ensures ∙ c.trans.ensures.trans in
-    let known = c.in_ok-from_slice-2.ensures ∙ c.as_slice.ensures in
+    let known = c.in_ok-known_numbers.ensures.items ∙ c.as_slice.ensures in
     let P : List EditStart → Type 0 = λ ms. AreEditStarts l ms in
     let R : List TransName → List Signal → Type 0 = λ names signals. All (λ (t : TransName). t.signal < length signals) names in
     let K : List ℕ → List Signal → Type 0 = λ known signals. All (λ s. s < length signals) known in
@@ -60,12 +60,13 @@ invariant_of-result c =
         trans_differ = subst E (sym names) net.trans_names;
         signals_fit = rw signals net.signals_fit;
         flagged = λ s. c.in_ok-known_flags.ensures.flags s ∙ ap (list_any (λ k. k == s)) (c.as_slice-2.ensures ∙ sym known);
-        flags_long = c.in_ok-known_flags.ensures.len ∙ ap length (c.signals-2.ensures.signals ∙ sym signals);
+        flags_long = c.in_ok-known_flags.ensures.len ∙ ap length (c.signals-3.ensures.signals ∙ sym signals);
         trans_few = omega (arith, ap length names, c.requires.within.trans);
       };
+      known_room = omega (arith, c.in_ok-known_numbers.ensures.room, ap length signals, ap length c.signals-2.ensures.signals);
       sizes_room = omega arith;
       sized = record {
-        now_sized = c.size_from-size.ensures ∙ size_whole (base_of c.in_ok-copy_signals.field-0 c.in_ok-from_slice.field-0 c.in_ok-from_slice-2.field-0 (length c.tokens.result.now)) l f.arena.timed (λ p low. f.live Place p);
-        past_sized = c.new-2.ensures.items ∙ ap (λ ms. map size_of (past_of (base_of c.in_ok-copy_signals.field-0 c.in_ok-from_slice.field-0 c.in_ok-from_slice-2.field-0 (length c.tokens.result.now)) l ms)) (sym c.new.ensures.items);
+        now_sized = c.size_from-size.ensures ∙ size_whole (base_of c.in_ok-copy_signals.field-0 c.in_ok-from_slice.field-0 c.in_ok-known_numbers.field-0.items (length c.tokens.result.now)) l f.arena.timed (λ p low. f.live Place p);
+        past_sized = c.new-2.ensures.items ∙ ap (λ ms. map size_of (past_of (base_of c.in_ok-copy_signals.field-0 c.in_ok-from_slice.field-0 c.in_ok-known_numbers.field-0.items (length c.tokens.result.now)) l ms)) (sym c.new.ensures.items);
       };
     }

@@ -156,6 +156,7 @@ invariant_of-self c =
       roomy = omega (arith, c.self.invariant.roomy, may.places, may.arcs, r.places, r.cells, ap (λ r. r.places) r.later.rooms, ap (λ r. r.cells) r.later.rooms, c.self.invariant.arena.laid.places);
       names_long = c.self.invariant.names_long ∙ sym r.later.trans;
       named = c.self.invariant.named;
+      known_room = c.self.invariant.known_room;
       sizes_room = omega (arith, c.self.invariant.sizes_room, c.push_reserved-2.ensures.capacity);
       sized = record { now_sized = sized.0; past_sized = sized.1 };
     }

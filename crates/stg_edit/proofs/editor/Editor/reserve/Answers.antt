@@ -37,6 +37,7 @@ invariant_of-self-2 c =
       roomy = c.in_ok-reserve-3.ensures.ok.roomy;
       names_long = c.self.invariant.names_long ∙ sym (ap (λ (l : Layout). length l.trans) same);
       named = c.self.invariant.named;
+      known_room = c.self.invariant.known_room;
       sizes_room = omega (arith, c.self.invariant.sizes_room, c.in_ok-reserve-2.ensures.ok, c.reserve-2.ensures.capacity, c.max-self-inside.ensures, ap length c.reserve-2.ensures.items, sizes_long c.self.inside c.self.invariant);
       sized = record {
         now_sized = c.self.invariant.sized.now_sized ∙ ap (λ l. size_of (now_of x l)) (sym same);

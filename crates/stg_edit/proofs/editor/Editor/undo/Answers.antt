@@ -42,6 +42,7 @@ invariant_of-self c =
       roomy = omega (arith, c.self.invariant.roomy, ap (λ r. r.places) u.later.rooms, ap (λ r. r.cells) u.later.rooms, u.later.places, u.slim, c.self.invariant.arena.laid.places);
       names_long = c.self.invariant.names_long ∙ u.later.trans;
       named = c.self.invariant.named;
+      known_room = c.self.invariant.known_room;
       sizes_room = omega (arith, c.self.invariant.sizes_room, c.take_last-self-inside.ensures.capacity);
       sized = record { now_sized = sized.1; past_sized = sized.0 };
     }
