@@ -126,7 +126,7 @@ turned : (g : Graph) (t u : ℕ) → AreRivals g t u → AreRivals g u t
 turned g t u r = record { differ = λ e. r.differ (sym e); t_known = r.u_known; u_known = r.t_known; t_name = r.u_name; u_name = r.t_name; t_has = r.u_has; u_has = r.t_has; same = sym r.same }
 
 -- a graph without clashes has no structural auto-conflict
-no_clash : (g : Graph) → ((t u p : ℕ) → IsClash g t u p → ⊥) → HasNoAutoConflict g
+pub no_clash : (g : Graph) → ((t u p : ℕ) → IsClash g t u p → ⊥) → HasNoAutoConflict g
 no_clash g none t u p conflict = elim (cases_order t u) [
   | inl same ↦ absurd (conflict.rivals.differ same)
   | inr o ↦ elim o [

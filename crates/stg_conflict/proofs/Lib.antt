@@ -2,4 +2,8 @@ pub mod Examples
 pub mod Orders
 pub mod Found
 pub mod Clashing
+pub mod LeastHidden
+pub mod NewClashes
+pub mod Noting
+pub mod Walks
 pub mod Within

@@ -1,2 +1,3 @@
+pub mod Hidden
 -- What serves private functions alone.
 pub mod inner

@@ -10,7 +10,8 @@ use crate::Clash;
 use crate::clash::least_of;
 use stg_net::{Net, NetArc, TransName};
 
-fn is_label(one: TransName, other: TransName) -> bool
+/// Whether two names of a net have one label.
+pub(crate) fn is_label(one: TransName, other: TransName) -> bool
     ensures { result ≡ have_label one other }
 {
     one.signal == other.signal && one.edge == other.edge
