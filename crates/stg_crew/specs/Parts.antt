@@ -10,6 +10,7 @@ use Rattle.stg_laws.specs.Stgs.{stg_of}
 use Rattle.stg_derive.specs.declared.part.Part.{Part}
 use Rattle.stg_derive.specs.Derivations.{IsDerivedPart}
 use Rattle.stg_derive.specs.Loggable.{IsLoggable}
+use Rattle.stg_derive.specs.Undoing.{IsExactlyWorn}
 
 -- a part without anything, which stands at no number
 abbrev pub no_part : Part
@@ -39,14 +40,17 @@ abbrev pub AreKnownInRange : NetLists → List Group → Type 0
 AreKnownInRange n groups =
     All (λ (group : Group). All (λ s. s < length n.signals) group.known) groups
 
--- the parts are those of the groups' plain derivations, in the order of the groups
+-- the parts are those of the groups' plain derivations, in the order of the groups, with their wear
 pub record AreDerived (n : NetLists) (groups : List Group) (parts : List Part) : Type 0 where
   pub as_many : length parts ≡ length groups
   pub each : (i : ℕ) → i < length groups → IsDerivedPart n (group_in groups i) (part_at parts i)
+  pub worn : (i : ℕ) → i < length groups → IsExactlyWorn n (group_in groups i) (part_at parts i)
 
--- the part is that of the group's plain derivation, and is faithful, can be written and logged
+-- the part is that of the group's plain derivation with its wear, and is faithful, can be written
+-- and logged
 pub record IsPartOf (n : NetLists) (group : Group) (part : Part) : Type 0 where
   pub derived : IsDerivedPart n group part
+  pub worn : IsExactlyWorn n group part
   pub net : IsNet part.net
   pub within : IsWithin PART part.net
   pub named : IsWellNamed part.net

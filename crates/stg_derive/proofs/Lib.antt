@@ -4,12 +4,17 @@ pub mod Choosing
 pub mod Keeping
 pub mod UnderWay
 pub mod Restoring
+pub mod OneMoreKnown
+pub mod Staying
+pub mod Noting
+pub mod Undone
 pub mod DraftNumbers
 pub mod DraftSignals
 pub mod OneStep
 pub mod OneDerivation
 pub mod OneNet
 pub mod OnePart
+pub mod OneWear
 pub mod Examples
 pub mod FaithfulDrafts
 pub mod FinishedParts

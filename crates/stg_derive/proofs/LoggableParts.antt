@@ -29,9 +29,10 @@ use Rattle.stg_derive.specs.Derivations.{IsStuck, known_with, with_restored, Are
 use Rattle.stg_derive.specs.Loggable.{IsLoggable, log_limit, IsLoggableVerdict, IsLoggableRecord, IsLoggablePlaceRule, IsLoggableDummyRule, IsLoggableStep}
 use Rattle.stg_derive.specs.Steps.{IsPlainStep, stepped, IsCandidate}
 use Rattle.stg_derive.specs.inner.Drafts.{HasFewPlaces}
+use Rattle.stg_derive.specs.inner.UnderWay.{HasTransBelow}
 use Rattle.stg_derive.proofs.Counting.{count_le}
 use Rattle.stg_derive.proofs.StepEffects.{dummy_by, many_trans, many_places, live_rule, live_place_below, live_trans_below, fewer_trans, few_new, loses_dummy, loses_contracted}
-use Rattle.stg_derive.proofs.UnderWay.{step_few, step_first, initial_few}
+use Rattle.stg_derive.proofs.UnderWay.{step_first, steps_few, initial_few}
 use Rattle.stg_derive.proofs.Restoring.{dummy_hidden, left_dummy, stuck_hidden}
 use Rattle.stg_derive.proofs.FinishedNets.{steps_long, steps_first}
 
@@ -62,6 +63,12 @@ reason_told : (g : Graph) (t : ℕ) (rule : DummyRule) (trans : ℕ) → IsDummy
 reason_told g t dummy_rule.Loop trans r long = tt
 reason_told g t (dummy_rule.Same u) trans r long = omega (arith, live_trans_below g u r.1.other_dummy.live, long)
 
+-- the transitions of a plain step are there
+pub step_there : (g : Graph) (s : Step) (trans : ℕ) → IsPlainStep g s → length g.trans ≡ trans → HasTransBelow trans s
+step_there g (DropPlace found) trans p long = tt
+step_there g (DropDummy found) trans p long = (omega (arith, live_trans_below g found.trans (dummy_by g found.trans found.rule p.1.0).live, long), reason_told g found.trans found.rule trans p.1.0 long)
+step_there g (Contract t secure places) trans p long = omega (arith, live_trans_below g t p.cheapest.candidate.dummy.live, long)
+
 step_told : (g : Graph) (s : Step) (trans : ℕ) → IsPlainStep g s → g.first_places ≤ 4064 → room g < log_limit → length g.trans ≡ trans → IsLoggableStep trans s
 step_told g (DropPlace found) trans p first small long =
     let below : length g.places < log_limit = omega (arith, small) in
@@ -85,11 +92,6 @@ pub initial_room : (n : NetLists) (known : List ℕ) → length n.tokens ≤ 406
 initial_room n known places trans =
     let g = initial n known in
     omega (arith, length-map-range_with_len (place_of n) 0 (length n.tokens), few_kept (λ t. is_some (full_name_at g t)) (length g.trans), length-map n.trans (λ t. Some (full_name n t)), places, trans)
-
--- plain steps leave few places
-pub steps_few : (g : Graph) (steps : List Step) → ArePlainSteps g steps → HasFewPlaces g → HasFewPlaces (stepped_all g steps)
-steps_few g [] p few = few
-steps_few g (s ∷ steps) p few = steps_few (stepped g s) steps p.1 (step_few g s p.0 few)
 
 steps_room : (g : Graph) (steps : List Step) → ArePlainSteps g steps → g.first_places ≤ 4064 → room (stepped_all g steps) ≤ room g
 steps_room g [] p first = omega arith

@@ -1,9 +1,11 @@
 -- An attempt goes on: its steps so far, and what is left for it to do.
-use Rattle.std.proofs.Common.{◌≡◌, ℕ, ◌+◌, ◌*◌, ◌<◌, ◌≤◌, List, [], ◌∷◌, ◌++◌, length, is_some, refl, sym, ap, ◌∙◌, subst, arith}
+use Rattle.std.proofs.Common.{◌≡◌, ℕ, ◌+◌, ◌*◌, ◌<◌, ◌≤◌, ◌^◌, Some, List, [], ◌∷◌, ◌++◌, length, is_some, refl, sym, ap, ◌∙◌, subst, arith}
+use Rattle.std.proofs.lemmas.List.{length-map}
 use Rattle.std.proofs.lemmas.List.FromFn.{length-map-range_with_len}
-use Rattle.stg_net.specs.Graph.{Graph, place_at}
+use Rattle.stg_net.specs.Graph.{Graph, place_at, full_name_at}
+use Rattle.stg_net.specs.declared.trans.TransName.{TransName}
 use Rattle.stg_net.specs.Net.{NetLists, IsNet, IsWithin}
-use Rattle.stg_net.specs.Initial.{place_of, initial, graph_of}
+use Rattle.stg_net.specs.Initial.{place_of, initial, full_name}
 use Rattle.stg_edit.proofs.Compacting.{few_kept}
 use Rattle.stg_net.specs.declared.limits.TheConstants.Limits.{PART}
 use Rattle.stg_laws.specs.Conflict.{HasNoAutoConflict}
@@ -59,7 +61,7 @@ step_few g (DropDummy found) p few = omega (arith, few, as_many_places g found.t
 step_few g (Contract t secure places) p few = p.cheapest.candidate.contractible.few_places
 
 -- each plain step keeps a calm draft calm
-step_calm : (g : Graph) (s : Step) → IsPlainStep g s → IsCalm g → IsCalm (stepped g s)
+pub step_calm : (g : Graph) (s : Step) → IsPlainStep g s → IsCalm g → IsCalm (stepped g s)
 step_calm g (DropPlace found) p calm = calm-without_place g found.place calm
 step_calm g (DropDummy found) p calm = calm-without_trans g found.trans calm
 step_calm g (Contract t secure places) p calm =
@@ -71,30 +73,36 @@ initial_few n known =
     let g = initial n known in
     omega (arith, few_kept (λ p. is_some (place_at g p)) (length g.places), length-map-range_with_len (place_of n) 0 (length n.tokens))
 
--- an attempt so far: its steps are plain, and lead to the draft now
-pub record IsUnderWay (n : NetLists) (known : List ℕ) (steps : List Step) (now : Graph) : Type 0 where
-  pub plain : ArePlainSteps (initial n known) steps
-  pub leads : now ≡ stepped_all (initial n known) steps
-  pub few : HasFewPlaces now
-  pub calm : IsCalm now
-  pub first : now.first_places ≡ length n.tokens
+-- the first ones of plain steps are plain
+pub plain-front : (g : Graph) (steps more : List Step) → ArePlainSteps g (steps ++ more) → ArePlainSteps g steps
+plain-front g [] more p = tt
+plain-front g (s ∷ steps) more p = (p.0, plain-front (stepped g s) steps more p.1)
 
--- an attempt begins
-pub begins : (n : NetLists) (known : List ℕ) (now : Graph) → IsNet n → IsWithin PART n → HasNoAutoConflict (graph_of n) → now ≡ initial n known → IsUnderWay n known [] now
-begins n known now net within apart e = record { plain = tt; leads = e; few = rw e (initial_few n known); calm = rw e (calm-initial n known net within apart); first = rw e refl }
+-- plain steps leave few places, a calm draft and the count of first places
+pub steps_few : (g : Graph) (steps : List Step) → ArePlainSteps g steps → HasFewPlaces g → HasFewPlaces (stepped_all g steps)
+steps_few g [] p few = few
+steps_few g (s ∷ steps) p few = steps_few (stepped g s) steps p.1 (step_few g s p.0 few)
 
--- an attempt goes on with a plain step
-pub goes_on : (n : NetLists) (known : List ℕ) (steps : List Step) (now next : Graph) (s : Step) → IsUnderWay n known steps now → IsPlainStep now s → next ≡ stepped now s → IsUnderWay n known (steps ++ s ∷ []) next
-goes_on n known steps now next s u p e =
-    let P : Graph → Type 0 = λ g. IsPlainStep g s in
-    record {
-      plain = plain-last (initial n known) steps s u.plain (subst P u.leads p);
-      leads = e ∙ ap (λ g. stepped g s) u.leads ∙ sym (stepped-last (initial n known) steps s);
-      few = rw e (step_few now s p u.few);
-      calm = rw e (step_calm now s p u.calm);
-      first = ap (λ (g : Graph). g.first_places) e ∙ step_first now s ∙ u.first;
-    }
+pub steps_calm : (g : Graph) (steps : List Step) → ArePlainSteps g steps → IsCalm g → IsCalm (stepped_all g steps)
+steps_calm g [] p calm = calm
+steps_calm g (s ∷ steps) p calm = steps_calm (stepped g s) steps p.1 (step_calm g s p.0 calm)
 
--- and then it has less before it
-pub less_left : (n : NetLists) (known : List ℕ) (steps : List Step) (now next : Graph) (s : Step) → IsUnderWay n known steps now → length n.tokens ≤ 4064 → IsPlainStep now s → next ≡ stepped now s → left next < left now
-less_left n known steps now next s u small p e = rw e (step_less now s p u.few (omega (arith, u.first, small)))
+-- and less to do by each of them
+pub steps_less : (g : Graph) (steps : List Step) → ArePlainSteps g steps → HasFewPlaces g → g.first_places ≤ 4064 → length steps + left (stepped_all g steps) ≤ left g
+steps_less g [] p few first = omega arith
+steps_less g (s ∷ steps) p few first =
+    omega (arith, steps_less (stepped g s) steps p.1 (step_few g s p.0 few) (omega (arith, step_first g s, first)), step_less g s p.0 few first)
+
+-- so there are not so many of them
+pub steps_short : (n : NetLists) (known : List ℕ) (steps : List Step) → IsWithin PART n → ArePlainSteps (initial n known) steps → length steps < 2 ^ 32
+steps_short n known steps within p =
+    let g = initial n known in
+    omega (
+      arith,
+      steps_less g steps p (initial_few n known) within.places,
+      initial_few n known,
+      few_kept (λ t. is_some (full_name_at g t)) (length g.trans),
+      length-map n.trans (λ (t : TransName). Some (full_name n t)),
+      within.trans,
+      within.places,
+    )

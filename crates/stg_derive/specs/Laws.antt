@@ -10,6 +10,7 @@ use Rattle.stg_derive.specs.declared.part.Part.{Part}
 use Rattle.stg_derive.specs.Steps.{IsPlainStep, IsAtRest}
 use Rattle.stg_derive.specs.Attempts.{IsAttempt}
 use Rattle.stg_derive.specs.Derivations.{IsPlainDerivation, IsDerivedPart}
+use Rattle.stg_derive.specs.Undoing.{IsExactlyWorn}
 
 -- a draft has at most one plain step
 abbrev pub StepIsOne : Type 0
@@ -36,7 +37,7 @@ abbrev pub NetIsOne : Type 0
 NetIsOne = (n : NetLists) (g : Graph) (own : List ℕ) (a b : NetLists) → IsNet a → IsNet b
     → IsNetOf n.signals g own a → IsNetOf n.signals g own b → a ≡ b
 
--- two parts are the same, whatever their wear
+-- two parts are the same but for their wear
 pub record AreSameParts (a b : Part) : Type 0 where
   pub net : a.net ≡ b.net
   pub own : a.own ≡ b.own
@@ -48,3 +49,8 @@ pub record AreSameParts (a b : Part) : Type 0 where
 abbrev pub PartIsOne : Type 0
 PartIsOne = (n : NetLists) (group : Group) (a b : Part) → IsNet a.net → IsNet b.net
     → IsDerivedPart n group a → IsDerivedPart n group b → AreSameParts a b
+
+-- and one wear
+abbrev pub WearIsOne : Type 0
+WearIsOne = (n : NetLists) (group : Group) (a b : Part) → IsDerivedPart n group a
+    → IsDerivedPart n group b → IsExactlyWorn n group a → IsExactlyWorn n group b → a.wear ≡ b.wear

@@ -2,4 +2,5 @@
 -- derivation keeps, and which nets of the tests can be derived from.
 pub mod Choices
 pub mod Drafts
+pub mod UnderWay
 pub mod Derivable

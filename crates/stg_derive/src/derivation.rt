@@ -1,4 +1,4 @@
-//! The derivation of a part, which starts again with each signal that is given back.
+//! The derivation of a part: one attempt after the other, each with one more signal known.
 
 ghost use Rattle.std.specs.Prelude.{◌≡◌, ◌<◌, ◌≢◌, ◌++◌, ◌∷◌, [], ◌≤◌, false, length, All, AllPairs, IfOk, OnOk};
 ghost use Rattle.stg_net.specs.declared.limits.TheConstants.Limits.{SPEC, PART};
@@ -16,31 +16,20 @@ ghost use Rattle.stg_laws.specs.Stgs.{stg_of};
 ghost use Rattle.stg_net.specs.Component.{is_one_of as lists_one_of};
 ghost use Rattle.stg_derive.specs.declared.part.Restore.{Restore};
 ghost use Rattle.stg_derive.specs.Loggable.{IsLoggable};
-ghost use Rattle.stg_derive.specs.Attempts.{IsAttempt, stepped_all};
-ghost use Rattle.stg_derive.specs.inner.Drafts.{HasFewPlaces};
-ghost use Rattle.stg_derive.specs.Derivations.{IsLeastDummy, IsRecord, IsStuck, known_with, IsDerivedPart, AreGivenBack, with_restored, hidden_signals};
+ghost use Rattle.stg_derive.specs.Steps.{IsAtRest};
+ghost use Rattle.stg_derive.specs.Undoing.{IsExactlyWorn};
+ghost use Rattle.stg_derive.specs.inner.UnderWay.{IsUnderWay, AreUndoneBy};
+ghost use Rattle.stg_derive.specs.Derivations.{IsLeastDummy, IsRecord, IsDerivedPart, AreGivenBack, with_restored, hidden_signals};
 
-use crate::attempt::{Attempt, make_attempt};
+use crate::attempt::{Attempt, begin, go_on};
 use crate::choice::first_dummy;
+use crate::undoing::give_back;
 use crate::{Part, Restore};
 use std::alloc::Global;
 use stg_contract::test_calm;
 use stg_edit::Editor;
-use stg_net::{Net, NoMemory, Nums, Seq, Spec, is_one_of};
+use stg_net::{Net, NoMemory, Seq, Spec};
 use stg_partition::Group;
-
-/// The known signals with one more, in ascending order.
-fn add_signal(alloc: Global, net: &Net, known: &Nums, signal: u32) -> Result<Nums, NoMemory>
-    ensures { IfOk result (λ all. all ≡ known_with net.now known.now signal) }
-{
-    let mut all = Seq::new(alloc);
-    for s in 0..net.signals().len() as u32 {
-        if is_one_of(known.as_slice(), s as usize) || s == signal {
-            all.push(s)?;
-        }
-    }
-    Ok(all)
-}
 
 /// The record of the least dummy.
 fn record_of(net: &Net, editor: &Editor, t: u32) -> Restore
@@ -61,7 +50,6 @@ fn finish(
     alloc: Global,
     net: &Net,
     group: &Group,
-    known: Nums,
     restored: Seq<Restore>,
     attempt: Attempt,
 ) -> Result<Part, NoMemory>
@@ -71,14 +59,12 @@ fn finish(
     requires in_range { All (λ s. s < length net.now.signals) group.now.known }
     requires closed { IsClosed (graph_of net.now) (names_at net.now group.now.own)
         (names_at net.now group.now.known) }
-    requires known { known ≡ with_restored net.now group.now.known restored }
+    requires known { attempt.known ≡ with_restored net.now group.now.known restored }
     requires given_back { AreGivenBack net.now group.now.known restored }
-    requires attempt { IsAttempt (initial net.now known) attempt.steps }
-    requires draft { attempt.editor.now ≡ stepped_all (initial net.now known) attempt.steps }
-    requires signals { attempt.editor.signals ≡ net.now.signals }
+    requires under_way { IsUnderWay net.now attempt }
+    requires rests { IsAtRest attempt.editor.now }
     requires no_dummy { HasNoDummy attempt.editor.now }
-    requires calm { IsCalm attempt.editor.now }
-    requires few { HasFewPlaces attempt.editor.now }
+    requires undone { AreUndoneBy net.now group.now.known restored attempt.editor.undone }
     ensures part { IfOk result (λ part. IsDerivedPart net.now group.now part) }
     ensures net { IfOk result (λ part. IsNet part.net) }
     ensures within { IfOk result (λ part. IsWithin PART part.net) }
@@ -91,8 +77,14 @@ fn finish(
     ensures attempts { IfOk result (λ part.
         length part.restored ≤ length (hidden_signals net.now group.now.known)) }
     ensures loggable { IfOk result (λ part. IsLoggable net.now part) }
+    ensures worn { IfOk result (λ part. IsExactlyWorn net.now group.now part) }
 {
-    let Attempt { editor, steps } = attempt;
+    let Attempt {
+        known,
+        editor,
+        steps,
+        ..
+    } = attempt;
     let own = Seq::from_slice(alloc, group.own.as_slice())?;
     let made = editor.net(&own)?;
     let _signals = made.signals();
@@ -101,7 +93,7 @@ fn finish(
         own,
         known,
         restored,
-        steps,
+        steps: Seq::from_vec(steps),
         wear: editor.close(),
     })
 }
@@ -110,9 +102,10 @@ fn finish(
 /// know the signals of all arcs at the places from which its own transitions take.
 ///
 /// Plain steps are made from the initial component on. Where dummies are left when there is none,
-/// the signal of the least one is given back, and the next attempt starts again (backtracking,
-/// W. Vogler and R. Wollowski, *Decomposition in Asynchronous Circuit Design*). So there is at most
-/// one attempt more than there are hidden signals.
+/// the signal of the least one is given back (backtracking, W. Vogler and R. Wollowski,
+/// *Decomposition in Asynchronous Circuit Design*), and the next attempt begins with the steps that
+/// stay: the others alone are undone. So there is at most one attempt more than there are hidden
+/// signals, and the part's wear has the steps of the last attempt and the undone ones of all others.
 pub fn derive(alloc: Global, spec: &Spec, group: &Group) -> Result<Part, NoMemory>
     requires within { IsWithin SPEC spec.now.net }
     requires in_range { All (λ s. s < length spec.now.net.signals) group.now.known }
@@ -131,17 +124,18 @@ pub fn derive(alloc: Global, spec: &Spec, group: &Group) -> Result<Part, NoMemor
     ensures attempts { IfOk result (λ part.
         length part.restored ≤ length (hidden_signals spec.now.net group.now.known)) }
     ensures loggable { IfOk result (λ part. IsLoggable spec.now.net part) }
+    ensures worn { IfOk result (λ part. IsExactlyWorn spec.now.net group.now part) }
 {
     let net = spec.net();
-    let mut known = Seq::from_slice(alloc, group.known.as_slice())?;
+    let mut attempt = begin(alloc, net, &group.known)?;
     let mut restored = Seq::new(alloc);
     loop {
-        let attempt = make_attempt(alloc, net, &known)?;
+        go_on(alloc, net, &mut attempt)?;
         match first_dummy(&attempt.editor) {
-            None => return finish(alloc, net, group, known, restored, attempt),
+            None => return finish(alloc, net, group, restored, attempt),
             Some(t) => {
                 let record = record_of(net, &attempt.editor, t);
-                known = add_signal(alloc, net, &known, record.signal)?;
+                give_back(alloc, net, &mut attempt, record.signal)?;
                 restored.push(record)?;
             }
         }

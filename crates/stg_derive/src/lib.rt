@@ -6,12 +6,14 @@ mod attempt;
 mod choice;
 mod derivation;
 mod laws;
+mod notes;
 mod part;
 #[cfg(test)]
 mod rows;
 mod step;
 #[cfg(test)]
 mod tests;
+mod undoing;
 #[cfg(test)]
 mod worked;
 

@@ -2,6 +2,7 @@ use Rattle.stg_derive.proofs.OneStep.{step_is_one, rest_has_no_step, attempt_is_
 use Rattle.stg_derive.proofs.OneDerivation.{derivation_is_one}
 use Rattle.stg_derive.proofs.OneNet.{net_is_one}
 use Rattle.stg_derive.proofs.OnePart.{part_is_one}
+use Rattle.stg_derive.proofs.OneWear.{wear_is_one}
 use Rattle.stg_derive.proofs.laws.law_one_derivation.Goals as goal
 
 pub returns-clause-step : goal.returns-clause-step
@@ -21,3 +22,6 @@ returns-clause-net c = net_is_one
 
 pub returns-clause-part : goal.returns-clause-part
 returns-clause-part c = part_is_one
+
+pub returns-clause-wear : goal.returns-clause-wear
+returns-clause-wear c = wear_is_one
