@@ -67,6 +67,7 @@ apart_initial n known signal net below none t u p c =
   where
     all : List (List ℕ)
     all = names_at n (range_with_len 0 (length n.signals))
+
     name_in : (x : List ℕ) → is_among ((signal_at n.signals signal).name ∷ []) x ≡ true → is_among all x ≡ true
     name_in x e =
         let same : (signal_at n.signals signal).name ≡ x = elim (or_cases (bytes_eq (signal_at n.signals signal).name x) false e) [
@@ -74,6 +75,7 @@ apart_initial n known signal net below none t u p c =
           | inr e ↦ absurd (false≢true e)
         ] in
         subst (λ y. is_among all y ≡ true) same (named_among n (range_with_len 0 (length n.signals)) signal (Contains-range (length n.signals) signal below))
+
     in_all : (o : Option FullName) → has_signal_of ((signal_at n.signals signal).name ∷ []) o ≡ true → has_signal_of all o ≡ true
     in_all None e = e
     in_all (Some x) e = name_in x.signal e
@@ -150,12 +152,12 @@ module _ (n : NetLists) (within : IsWithin PART n) (none : HasNoAutoConflict (gr
             let first_is : first ≡ length (stepped_all g0 steps).places = made.first_is ∙ ap (λ (g : Graph). length g.places) u.leads in
             let IsSo : Type 0 = IsGone n k b.editor.now first s in
             let last = first-last n k g0 steps s IsSo (get_or a.first_undone.items k None) (get_or b.first_undone.items k None) old (made.noted k there)
-                (λ gone. gone_goes n k (stepped_all g0 steps) first s (subst (λ g. IsGone n k g first s) (made.now ∙ now_is) gone))
-                (λ stay left. stays_unless n k (stepped_all g0 steps) first s (apart_stay n k g0 steps (apart_initial n a.known k net below none) stay)
-                  (λ t apart no_new. (none_anew (with_only n.signals k (stepped_all g0 steps)) t apart).0 (subst (λ f. ¬ HasConflictFrom (with_only n.signals k (contracted (stepped_all g0 steps) t)) f) first_is no_new))
-                  (λ gone. left (subst (λ g. IsGone n k g first s) (sym (made.now ∙ now_is)) gone))) in
+            (λ gone. gone_goes n k (stepped_all g0 steps) first s (subst (λ g. IsGone n k g first s) (made.now ∙ now_is) gone))
+            (λ stay left. stays_unless n k (stepped_all g0 steps) first s (apart_stay n k g0 steps (apart_initial n a.known k net below none) stay)
+            (λ t apart no_new. (none_anew (with_only n.signals k (stepped_all g0 steps)) t apart).0 (subst (λ f. ¬ HasConflictFrom (with_only n.signals k (contracted (stepped_all g0 steps) t)) f) first_is no_new))
+            (λ gone. left (subst (λ g. IsGone n k g first s) (sym (made.now ∙ now_is)) gone))) in
             subst (λ kn. IsFirstUndone n k (initial n kn) b.steps.items (get_or b.first_undone.items k None)) (sym made.known)
-              (subst (λ xs. IsFirstUndone n k g0 xs (get_or b.first_undone.items k None)) (sym made.steps) last);
+            (subst (λ xs. IsFirstUndone n k g0 xs (get_or b.first_undone.items k None)) (sym made.steps) last);
       }
 
   -- the drafts are those before the steps that are left, after the undo of the last one
@@ -243,9 +245,9 @@ module _ (n : NetLists) (within : IsWithin PART n) (none : HasNoAutoConflict (gr
       let front : ArePlainSteps g0 steps = plain-front g0 steps (drop kept a.steps.items) (subst (ArePlainSteps g0) (sym (take-append-drop kept a.steps.items)) u.plain) in
       let plain = kept_are_plain n a.known signal net u.range below steps front number.stay in
       let now : b.editor.now ≡ stepped_all (initial n (known_with n a.known signal)) steps =
-          back.now ∙ ap (λ xs. with_shown n.signals signal (stepped_all g0 xs)) back.steps ∙ shown_is a.known signal (stepped_all g0 steps) u.range (steps_known g0 steps) ∙ sym (stepped_all-knowing more g0 steps) in
+      back.now ∙ ap (λ xs. with_shown n.signals signal (stepped_all g0 xs)) back.steps ∙ shown_is a.known signal (stepped_all g0 steps) u.range (steps_known g0 steps) ∙ sym (stepped_all-knowing more g0 steps) in
       let past : b.editor.past ≡ drafts_before (initial n (known_with n a.known signal)) steps =
-          back.past ∙ ap (λ xs. map (with_shown n.signals signal) (drafts_before g0 xs)) back.steps ∙ drafts_shown a.known signal g0 steps u.range refl ∙ sym (drafts-knowing more g0 steps) in
+      back.past ∙ ap (λ xs. map (with_shown n.signals signal) (drafts_before g0 xs)) back.steps ∙ drafts_shown a.known signal g0 steps u.range refl ∙ sym (drafts-knowing more g0 steps) in
       record {
         range = subst (All (λ k. k < length n.signals)) (sym back.known) (with_in_range n a.known signal);
         plain = subst (λ k. ArePlainSteps (initial n k) b.steps.items) (sym back.known) (subst (ArePlainSteps (initial n (known_with n a.known signal))) (sym back.steps) plain);
@@ -260,8 +262,8 @@ module _ (n : NetLists) (within : IsWithin PART n) (none : HasNoAutoConflict (gr
             let taken = first-take n k g0 a.steps.items kept (get_or a.first_undone.items k None) number.few (u.noted k there) in
             let here = first-knowing n k more g0 steps (noted_below kept (get_or a.first_undone.items k None)) taken in
             subst (λ kn. IsFirstUndone n k (initial n kn) b.steps.items (get_or b.first_undone.items k None)) (sym back.known)
-              (subst (λ xs. IsFirstUndone n k (initial n (known_with n a.known signal)) xs (get_or b.first_undone.items k None)) (sym back.steps)
-                (subst (IsFirstUndone n k (initial n (known_with n a.known signal)) steps) (sym (back.noted k)) here));
+            (subst (λ xs. IsFirstUndone n k (initial n (known_with n a.known signal)) xs (get_or b.first_undone.items k None)) (sym back.steps)
+            (subst (IsFirstUndone n k (initial n (known_with n a.known signal)) steps) (sym (back.noted k)) here));
       }
 
 -- an attempt that rests is one of the net

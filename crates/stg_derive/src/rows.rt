@@ -157,6 +157,64 @@ pub fn clash(alloc: Global) -> Result<Part, NoMemory> {
     )
 }
 
+/// The same with k+ between two places that have no other transition.
+pub fn clash_beside_a_step_that_stays(alloc: Global) -> Result<Part, NoMemory> {
+    derive_row(
+        alloc,
+        &[b"a", b"h", b"k", b"x"],
+        &[
+            (0, Edge::Rise, 0),
+            (1, Edge::Rise, 0),
+            (0, Edge::Rise, 1),
+            (3, Edge::Rise, 0),
+            (2, Edge::Rise, 0),
+        ],
+        &[1, 0, 0, 0, 0],
+        &[
+            (0, 0, false, 1),
+            (0, 1, false, 1),
+            (1, 1, true, 1),
+            (1, 2, false, 1),
+            (2, 0, true, 1),
+            (2, 2, true, 1),
+            (2, 3, false, 1),
+            (3, 4, false, 1),
+            (4, 4, true, 1),
+        ],
+        &[3],
+        &[0, 3],
+    )
+}
+
+/// h+ and k+ take from one place, h+/1 from the one after k+, and both give twice to one place.
+pub fn clash_of_the_shown_signal(alloc: Global) -> Result<Part, NoMemory> {
+    derive_row(
+        alloc,
+        &[b"a", b"h", b"k", b"x"],
+        &[
+            (1, Edge::Rise, 0),
+            (2, Edge::Rise, 0),
+            (1, Edge::Rise, 1),
+            (0, Edge::Rise, 0),
+            (3, Edge::Rise, 0),
+        ],
+        &[1, 0, 0, 0],
+        &[
+            (0, 0, false, 1),
+            (0, 1, false, 1),
+            (1, 1, true, 1),
+            (1, 2, false, 1),
+            (2, 0, true, 2),
+            (2, 2, true, 2),
+            (2, 3, false, 1),
+            (3, 3, true, 1),
+            (3, 4, false, 1),
+        ],
+        &[3],
+        &[0, 3],
+    )
+}
+
 /// b+ takes from the place before h+ too, and the one after it is empty.
 pub fn secure_by_type_2(alloc: Global) -> Result<Part, NoMemory> {
     derive_row(

@@ -167,3 +167,46 @@ fn gives_a_signal_back_for_the_bound_on_places(rt: HostRuntime) -> Result<(), Fa
     let part = rows::wide(rt.alloc())?;
     assert_restored(&rt, &part, (24, 1, Verdict::Places(145)), (26, 26, 25))
 }
+
+/// How many steps the part's editor has made and not undone, and how many it has undone.
+fn wear(part: &Part) -> (u64, u64) {
+    (part.wear.edits(), part.wear.undone())
+}
+
+#[test]
+fn keeps_the_steps_that_stay(rt: HostRuntime) -> Result<(), Fail> {
+    let part = rows::clash_beside_a_step_that_stays(rt.alloc())?;
+    let restore = Restore {
+        signal: 1,
+        trans: 1,
+        verdict: Verdict::Clash(0, 2),
+    };
+    assert_eq!(rt; part.restored.as_slice(), [restore].as_slice());
+    let steps = [contract(4, Secure::Type1), drop_place(5, PlaceRule::Loop)];
+    assert_eq!(rt; part.steps.as_slice(), steps.as_slice());
+    assert_eq!(rt; size(&part), (3, 4, 3));
+    assert_eq!(rt; wear(&part), (2, 0));
+    Ok(())
+}
+
+#[test]
+fn undoes_a_contraction_and_the_deletion_of_a_twin(rt: HostRuntime) -> Result<(), Fail> {
+    let part = rows::clash_of_the_shown_signal(rt.alloc())?;
+    let restored = [
+        Restore {
+            signal: 1,
+            trans: 0,
+            verdict: Verdict::Weight,
+        },
+        Restore {
+            signal: 2,
+            trans: 1,
+            verdict: Verdict::Clash(0, 2),
+        },
+    ];
+    assert_eq!(rt; part.restored.as_slice(), restored.as_slice());
+    assert_eq!(rt; part.steps.len(), 0);
+    assert_eq!(rt; size(&part), (4, 5, 4));
+    assert_eq!(rt; wear(&part), (0, 2));
+    Ok(())
+}
