@@ -5,4 +5,7 @@ pub mod DeadEnds
 pub mod Growing
 pub mod LinkPaths
 pub mod LinkTables
+pub mod EditedPlaces
+pub mod WatchedPlaces
+pub mod ContractedPlaces
 mod Examples

@@ -111,7 +111,7 @@ link_is g p l narrow = go (sole_of (giving_trans g p)) (sole_of (taking_trans g 
     go None o x y e = absurd (none_some l e)
 
 -- and a link of the graph is found at its place
-link_there : (g : Graph) (p a b : ℕ) → IsWeightlessPastLast g → IsLink g a b p
+pub link_there : (g : Graph) (p a b : ℕ) → IsWeightlessPastLast g → IsLink g a b p
     → link_at g p ≡ Some (record { place = p; giver = a; taker = b; tokens = tokens_at g p })
 link_there g p a b narrow k = λ i. link_of g p (giver i) (taker i)
   where
