@@ -1,11 +1,11 @@
 -- The rules of redundancy computed on small nets.
-use Rattle.std.proofs.Common.{◌≡◌, ℕ, zero, suc, true, false, List, [], ◌∷◌, length, Option, Some, refl, arith}
+use Rattle.std.proofs.Common.{◌≡◌, ℕ, zero, suc, true, false, List, [], ◌∷◌, Option, Some, refl, arith}
 use Rattle.stg_net.specs.declared.trans.Edge.TheVariants.{Rise}
 use Rattle.stg_net.specs.Graph.{Graph, FullName, Place}
 use Rattle.stg_edit.specs.Drafts.{IsWeightlessPastLast}
 use Rattle.stg_laws.specs.RedundantPlaces.{IsSamePlace, IsShortcut}
 use Rattle.stg_redundant.specs.inner.Tests.{is_same_place, is_loop_place}
-use Rattle.stg_redundant.specs.inner.Chains.{all_links, HasPath}
+use Rattle.stg_redundant.specs.inner.Chains.{HasPath}
 use Rattle.stg_redundant.proofs.RuleTests.{same_place_is}
 use Rattle.stg_redundant.proofs.LinkPaths.{shortcut_is}
 
@@ -46,9 +46,6 @@ chain = record {
   known = [];
   first_places = 4;
 }
-
-four_links : length (all_links chain) ≡ 4
-four_links = refl
 
 narrow_chain : IsWeightlessPastLast chain
 narrow_chain zero p past = absurd (omega (arith, past))

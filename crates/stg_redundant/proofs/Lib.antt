@@ -2,7 +2,8 @@ pub mod RuleTests
 pub mod FirstSame
 pub mod Searching
 pub mod DeadEnds
-pub mod Growing
+pub mod LevelBounds
+pub mod LevelsLast
 pub mod LinkPaths
 pub mod LinkTables
 pub mod EditedPlaces

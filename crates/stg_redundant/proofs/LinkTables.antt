@@ -1,26 +1,14 @@
 -- What stands in the list of links at a place, and what a visit of the place leaves.
-use Rattle.std.proofs.Common.{◌≡◌, ◌≢◌, ◌<◌, ◌≤◌, ◌+◌, ◌++◌, [], ◌∷◌, ℕ, zero, suc, List, length, get_or, Option, Some, None, refl, sym, ap, ◌∙◌, subst, inl, inr, arith}
-use Rattle.std.proofs.lemmas.List.FromFn.{get_or-map-range_with_len, length-map-range_with_len, map-range_with_len_more}
+use Rattle.std.proofs.Common.{◌≡◌, ◌≢◌, ◌<◌, ◌≤◌, ◌+◌, ℕ, zero, suc, List, length, get_or, Some, None, refl, sym, ap, ◌∙◌, subst, inl, inr, arith}
 use Rattle.std.proofs.lemmas.Bool.{cases_eq, cases_lt, lt-ltb, le-ltb}
-use Rattle.stg_net.specs.Graph.{Graph, IsPlace, gives}
+use Rattle.stg_net.specs.Graph.{Graph, gives}
 use Rattle.stg_arena.specs.WalkItems.{weighted_from}
 use Rattle.stg_edit.specs.Walks.{given_places}
 use Rattle.stg_edit.specs.Drafts.{IsWeightlessPastLast}
 use Rattle.stg_contract.proofs.DummyTests.{taken_below}
-use Rattle.stg_contract.proofs.LeftPlaces.{place_below}
 use Rattle.stg_redundant.specs.declared.chains.Link.{Link}
-use Rattle.stg_redundant.specs.inner.Chains.{link_at, links_below, all_links, IsAmong, IsRelaxed, IsKept}
+use Rattle.stg_redundant.specs.inner.Chains.{link_at, IsAmong, IsRelaxed, IsKept}
 use Rattle.stg_redundant.proofs.LinkPaths.{none_some, one_link, link_is}
-
--- each live place has an entry
-pub in_table : (g : Graph) (links : List (Option Link)) (q : ℕ) → links ≡ all_links g → IsPlace g q
-    → q < length links
-in_table g links q e live = omega (arith, ap length e, length-map-range_with_len (link_at g) 0 (length g.places), place_below g q live)
-
--- which is its link
-pub at_place : (g : Graph) (links : List (Option Link)) (q : ℕ) → links ≡ all_links g → IsPlace g q
-    → get_or links q None ≡ link_at g q
-at_place g links q e live = ap (λ xs. get_or xs q None) e ∙ get_or-map-range_with_len (link_at g) 0 (length g.places) q q None (place_below g q live) (omega arith)
 
 -- where no link is, there is nothing to settle
 pub kept_without : (g : Graph) (p b q : ℕ) (rooms : List ℕ) (entries : List (ℕ × ℕ)) → link_at g q ≡ None
@@ -58,8 +46,3 @@ among_given g t left narrow e l at from =
     let is = link_is g l.place l narrow at in
     subst (IsAmong l.place) (sym e) (subst (λ u. IsAmong l.place (given_places g u)) from
     (among_from (gives g l.giver) l.place (length g.places) 0 (omega arith) (omega (arith, taken_below g l.taker l.place (omega (arith, is.link.taken)))) (omega (arith, is.link.given))))
-
--- the list with what stands at one more place
-pub one_more : (g : Graph) (p : ℕ) (links more : List (Option Link)) (o : Option Link) → links ≡ links_below g p
-    → more ≡ links ++ o ∷ [] → o ≡ link_at g p → more ≡ links_below g (p + 1)
-one_more g p links more o so grown at = grown ∙ (λ i. so i ++ at i ∷ []) ∙ sym (map-range_with_len_more (link_at g) 0 p p (omega arith))

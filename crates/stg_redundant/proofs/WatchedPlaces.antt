@@ -38,7 +38,7 @@ known_signals_reach_none g known = redundant_before g (record g { known = known 
     (λ r live. stands_same g (record g { known = known }) r refl live)
 
 -- without t, a place has no arc with it
-own_arcs_gone : (t : ℕ) (o : Option Place) → (taken_by t (without_arcs_of t o) ≡ 0) × (given_by t (without_arcs_of t o) ≡ 0)
+pub own_arcs_gone : (t : ℕ) (o : Option Place) → (taken_by t (without_arcs_of t o) ≡ 0) × (given_by t (without_arcs_of t o) ≡ 0)
 own_arcs_gone t None = (refl, refl)
 own_arcs_gone t (Some x) = (zero_there x.taken, zero_there x.given)
   where

@@ -1,3 +1,4 @@
 pub mod Rules
 pub mod Watching
+pub mod Levelled
 pub mod inner

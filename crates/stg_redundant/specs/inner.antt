@@ -2,4 +2,4 @@
 pub mod Tests
 pub mod Searches
 pub mod Chains
-pub mod Levelled
+pub mod DeadLinks

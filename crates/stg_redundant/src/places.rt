@@ -4,15 +4,14 @@ ghost use Rattle.std.specs.Prelude.{◌≡◌, ◌↔◌, length, is_some, IfOk,
 ghost use Rattle.stg_net.specs.Graph.{IsPlace, place_at};
 ghost use Rattle.stg_laws.specs.RedundantPlaces.{IsShortcut};
 ghost use Rattle.stg_edit.specs.Drafts.{IsDraft};
-ghost use Rattle.stg_redundant.specs.inner.Chains.{all_links};
-ghost use Rattle.stg_redundant.specs.inner.Levelled.{IsLevelled};
+ghost use Rattle.stg_redundant.specs.Levelled.{IsLevelled};
 ghost use Rattle.stg_redundant.specs.inner.Tests as tests;
 ghost use Rattle.stg_redundant.specs.Rules.{IsPlaceFound};
 ghost use Rattle.stg_redundant.specs.inner.Searches.{IsFirst, IsPlaceRuleOf};
 
-use crate::chains::{Link, find_links};
+use crate::chains::link_at;
 use crate::found::{PlaceFound, PlaceRule};
-use crate::levels::{Levels, find_levels};
+use crate::levels::Levels;
 use crate::search::has_chain;
 use crate::walks::{are_at_most, are_same, first_of};
 use std::alloc::Global;
@@ -97,7 +96,6 @@ fn is_loop(editor: &Editor, p: u32) -> bool
 /// Whether a chain of other places leads where a live place leads, with at most its tokens.
 fn is_shortcut(
     editor: &Editor,
-    links: &[Option<Link>],
     levels: &Levels,
     rooms: &mut [u64],
     list: &mut BinaryHeap<(u64, u32)>,
@@ -105,19 +103,18 @@ fn is_shortcut(
 ) -> Result<bool, NoMemory>
     requires draft { IsDraft editor.now }
     requires live { IsPlace editor.now.now p }
-    requires links { links.now ≡ all_links editor.now.now }
     requires levels { IsLevelled editor.now.now levels.now }
     requires rooms { length rooms.old ≡ length editor.now.now.trans }
     ensures value { IfOk result (λ yes. IsTrue yes ↔ IsShortcut editor.now.now p) }
     ensures len { length rooms.new ≡ length rooms.old }
 {
-    match links[p as usize] {
+    match link_at(editor, p) {
         None => Ok(false),
         Some(link) => {
             if link.giver == link.taker {
                 return Ok(false);
             }
-            has_chain(editor, links, levels, rooms, list, link)
+            has_chain(editor, levels, rooms, list, link)
         }
     }
 }
@@ -125,14 +122,12 @@ fn is_shortcut(
 /// The first rule by which a live place is redundant.
 fn rule_of(
     editor: &Editor,
-    links: &[Option<Link>],
     levels: &Levels,
     rooms: &mut [u64],
     list: &mut BinaryHeap<(u64, u32)>,
     p: u32,
 ) -> Result<Option<PlaceRule>, NoMemory>
     requires live { IsPlace editor.now.now p }
-    requires links { links.now ≡ all_links editor.now.now }
     requires levels { IsLevelled editor.now.now levels.now }
     requires rooms { length rooms.old ≡ length editor.now.now.trans }
     ensures value { IfOk result (λ rule. IsPlaceRuleOf editor.now.now p rule) }
@@ -145,7 +140,7 @@ fn rule_of(
     if is_loop(editor, p) {
         return Ok(Some(PlaceRule::Loop));
     }
-    if is_shortcut(editor, links, levels, rooms, list, p)? {
+    if is_shortcut(editor, levels, rooms, list, p)? {
         return Ok(Some(PlaceRule::Shortcut));
     }
     Ok(None)
@@ -155,13 +150,12 @@ fn rule_of(
 pub fn redundant_place(alloc: Global, editor: &Editor) -> Result<Option<PlaceFound>, NoMemory>
     ensures { IfOk result (λ found. IsPlaceFound editor.now.now found) }
 {
-    let links = find_links(alloc, editor)?;
-    let levels = find_levels(alloc, editor, &links)?;
+    let levels = Levels::of(alloc, editor)?;
     let mut rooms = vec![in alloc; 0u64; editor.all_trans() as usize]?;
     let mut list = BinaryHeap::new(alloc);
     for p in (0..editor.next_place()).rev() {
         if has_place(editor, p) {
-            match rule_of(editor, &links, &levels, &mut rooms, &mut list, p)? {
+            match rule_of(editor, &levels, &mut rooms, &mut list, p)? {
                 Some(rule) => return Ok(Some(PlaceFound { place: p, rule })),
                 None => {}
             }

@@ -6,9 +6,9 @@ ghost use Rattle.stg_net.specs.Graph.{Graph, IsPlace, IsTrans};
 ghost use Rattle.stg_edit.specs.Drafts.{IsDraft};
 ghost use Rattle.stg_redundant.specs.declared.chains.Link.{Link};
 ghost use Rattle.stg_redundant.specs.inner.Chains as chains;
-ghost use Rattle.stg_redundant.specs.inner.Levelled.{IsLevelled};
+ghost use Rattle.stg_redundant.specs.Levelled.{IsLevelled};
 
-use crate::chains::Link;
+use crate::chains::{Link, link_at};
 use crate::levels::{Levels, is_dead};
 use std::collections::BinaryHeap;
 use stg_edit::Editor;
@@ -39,7 +39,6 @@ fn raise(rooms: &mut [u64], link: Link) -> bool
 /// Goes along the link at a place, where it is one other than that whose chain is sought.
 fn visit(
     editor: &Editor,
-    links: &[Option<Link>],
     levels: &Levels,
     rooms: &mut [u64],
     list: &mut BinaryHeap<(u64, u32)>,
@@ -47,7 +46,6 @@ fn visit(
     q: u32,
 ) -> Result<(), NoMemory>
     requires draft { IsDraft editor.now }
-    requires links { links.now ≡ chains.all_links editor.now.now }
     requires levels { IsLevelled editor.now.now levels.now }
     requires rooms { length rooms.old ≡ length editor.now.now.trans }
     requires to { sought.taker < length editor.now.now.trans }
@@ -56,7 +54,7 @@ fn visit(
         rooms.old rooms.new (heap_items list.old) (heap_items list.new)) }
     ensures len { length rooms.new ≡ length rooms.old }
 {
-    let link = match links[q as usize] {
+    let link = match link_at(editor, q) {
         Some(link) => link,
         None => return Ok(()),
     };
@@ -75,7 +73,6 @@ fn visit(
 /// Goes along the links that leave a live transition.
 fn follow(
     editor: &Editor,
-    links: &[Option<Link>],
     levels: &Levels,
     rooms: &mut [u64],
     list: &mut BinaryHeap<(u64, u32)>,
@@ -83,7 +80,6 @@ fn follow(
     t: u32,
 ) -> Result<(), NoMemory>
     requires live { IsTrans editor.now.now t }
-    requires links { links.now ≡ chains.all_links editor.now.now }
     requires levels { IsLevelled editor.now.now levels.now }
     requires to { sought.taker < length editor.now.now.trans }
     requires rooms { length rooms.old ≡ length editor.now.now.trans }
@@ -92,7 +88,7 @@ fn follow(
     ensures len { length rooms.new ≡ length rooms.old }
 {
     for (q, _) in editor.gives(t) {
-        visit(editor, links, levels, rooms, list, sought, q)?;
+        visit(editor, levels, rooms, list, sought, q)?;
     }
     Ok(())
 }
@@ -101,13 +97,11 @@ fn follow(
 /// that isn't the room of its transition any more is passed over.
 fn advance(
     editor: &Editor,
-    links: &[Option<Link>],
     levels: &Levels,
     rooms: &mut [u64],
     list: &mut BinaryHeap<(u64, u32)>,
     sought: Link,
 ) -> Result<bool, NoMemory>
-    requires links { links.now ≡ chains.all_links editor.now.now }
     requires levels { IsLevelled editor.now.now levels.now }
     requires to { sought.taker < length editor.now.now.trans }
     requires search { chains.IsSearch editor.now.now sought.place sought.giver sought.taker
@@ -125,7 +119,7 @@ fn advance(
         None => Ok(false),
         Some((room, t)) => {
             if room == rooms[t as usize] {
-                follow(editor, links, levels, rooms, list, sought, t)?;
+                follow(editor, levels, rooms, list, sought, t)?;
             }
             Ok(true)
         }
@@ -153,9 +147,8 @@ fn start(
 }
 
 /// Whether the link at a place, where it is one other than the sought one, may begin a chain.
-fn may_begin(editor: &Editor, links: &[Option<Link>], levels: &Levels, sought: Link, q: u32) -> bool
+fn may_begin(editor: &Editor, levels: &Levels, sought: Link, q: u32) -> bool
     requires draft { IsDraft editor.now }
-    requires links { links.now ≡ chains.all_links editor.now.now }
     requires levels { IsLevelled editor.now.now levels.now }
     requires to { sought.taker < length editor.now.now.trans }
     requires place { IsPlace editor.now.now q }
@@ -163,7 +156,7 @@ fn may_begin(editor: &Editor, links: &[Option<Link>], levels: &Levels, sought: L
         → q ≢ sought.place → chains.HasPath editor.now.now sought.place l.taker sought.taker
         (sought.tokens + 1) (l.tokens + 1) → ⊥ }
 {
-    match links[q as usize] {
+    match link_at(editor, q) {
         Some(link) => {
             q != sought.place && !is_dead(levels, link, sought.taker, sought.tokens as u64 + 1)
         }
@@ -172,9 +165,8 @@ fn may_begin(editor: &Editor, links: &[Option<Link>], levels: &Levels, sought: L
 }
 
 /// Whether a link that leaves the giver of the sought one may begin a chain.
-fn may_leave(editor: &Editor, links: &[Option<Link>], levels: &Levels, sought: Link) -> bool
+fn may_leave(editor: &Editor, levels: &Levels, sought: Link) -> bool
     requires draft { IsDraft editor.now }
-    requires links { links.now ≡ chains.all_links editor.now.now }
     requires levels { IsLevelled editor.now.now levels.now }
     requires to { sought.taker < length editor.now.now.trans }
     requires giver { IsTrans editor.now.now sought.giver }
@@ -182,7 +174,7 @@ fn may_leave(editor: &Editor, links: &[Option<Link>], levels: &Levels, sought: L
         sought.tokens 0 → sought.giver ≡ sought.taker }
 {
     for (q, _) in editor.gives(sought.giver) {
-        if may_begin(editor, links, levels, sought, q) {
+        if may_begin(editor, levels, sought, q) {
             return true;
         }
     }
@@ -195,14 +187,12 @@ fn may_leave(editor: &Editor, links: &[Option<Link>], levels: &Levels, sought: L
 /// first, and none rises along a link.
 pub fn has_chain(
     editor: &Editor,
-    links: &[Option<Link>],
     levels: &Levels,
     rooms: &mut [u64],
     list: &mut BinaryHeap<(u64, u32)>,
     sought: Link,
 ) -> Result<bool, NoMemory>
     requires draft { IsDraft editor.now }
-    requires links { links.now ≡ chains.all_links editor.now.now }
     requires levels { IsLevelled editor.now.now levels.now }
     requires rooms { length rooms.old ≡ length editor.now.now.trans }
     requires sought { chains.link_at editor.now.now sought.place ≡ Some sought }
@@ -211,12 +201,12 @@ pub fn has_chain(
         sought.giver sought.taker sought.tokens 0) }
     ensures len { length rooms.new ≡ length rooms.old }
 {
-    if !may_leave(editor, links, levels, sought) {
+    if !may_leave(editor, levels, sought) {
         return Ok(false);
     }
     start(rooms, list, sought.giver, sought.tokens as u64 + 1)?;
     while rooms[sought.taker as usize] == 0 {
-        if !advance(editor, links, levels, rooms, list, sought)? {
+        if !advance(editor, levels, rooms, list, sought)? {
             return Ok(false);
         }
     }

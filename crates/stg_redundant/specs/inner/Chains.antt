@@ -1,6 +1,5 @@
 -- Links, which are places with one giver and one taker with weights 1, and paths along them.
-use Rattle.std.specs.Prelude.{◌≡◌, ◌≢◌, ◌≤◌, ◌<◌, ◌+◌, ◌-◌, ◌⊎◌, ℕ, List, [], ◌∷◌, length, map, Option, None, Some, Contains, All, slice_set, slice_index, sum_by}
-use Rattle.std.specs.List.{range_with_len}
+use Rattle.std.specs.Prelude.{◌≡◌, ◌≢◌, ◌≤◌, ◌<◌, ◌+◌, ◌-◌, ◌⊎◌, ℕ, List, [], ◌∷◌, length, Option, None, Some, Contains, All, slice_set, slice_index, sum_by}
 use Rattle.std.specs.List.Sorted.{IsPermutation}
 use Rattle.stg_net.specs.Graph.{Graph, IsTrans, tokens_at}
 use Rattle.stg_edit.specs.Walks.{taking_trans, giving_trans}
@@ -17,14 +16,6 @@ link_of g p None o = None
 -- the link at p, where p is one
 abbrev pub link_at : Graph → ℕ → Option Link
 link_at g p = link_of g p (sole_of (giving_trans g p)) (sole_of (taking_trans g p))
-
--- what stands at each of the places below n
-abbrev pub links_below : Graph → ℕ → List (Option Link)
-links_below g n = map (link_at g) (range_with_len 0 n)
-
--- what stands at each place
-abbrev pub all_links : Graph → List (Option Link)
-all_links g = links_below g (length g.places)
 
 -- links other than that of the place p lead from a to b
 abbrev pub IsPath : Graph → ℕ → ℕ → ℕ → List Link → Type 0

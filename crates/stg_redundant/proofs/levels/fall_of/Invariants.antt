@@ -1,5 +1,5 @@
-use Rattle.stg_redundant.proofs.Growing.{GrowBelow}
+use Rattle.stg_redundant.proofs.LevelBounds.{GrowBelow}
 use Rattle.stg_redundant.proofs.levels.fall_of.Given as goal
 
-abbrev pub invariant-loop-link : goal.invariant-loop-link
-invariant-loop-link l = GrowBelow l.numbers l.fall l.links l.link-index
+abbrev pub invariant-loop-p : goal.invariant-loop-p
+invariant-loop-p l = GrowBelow l.editor.now (record { numbers = l.numbers; rise = l.rise; fall = l.fall }) l.p

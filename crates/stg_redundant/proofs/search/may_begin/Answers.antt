@@ -1,17 +1,13 @@
 use Rattle.std.proofs.Common.{◌≡◌, ◌+◌, Bool, true, false, not, sym, ◌∙◌, subst, refl, arith}
 use Rattle.stg_redundant.specs.inner.Chains.{HasPath}
 use Rattle.stg_redundant.proofs.LinkPaths.{none_some, one_link, link_is}
-use Rattle.stg_redundant.proofs.LinkTables.{in_table, at_place}
 use Rattle.stg_redundant.proofs.DeadEnds.{dead_end}
 use Rattle.stg_redundant.proofs.search.may_begin.Goals as goal
-
-pub bounds : goal.bounds
-bounds c = in_table c.args.editor.now.now c.args.links.now c.args.q c.requires.links c.requires.place
 
 pub is_dead-requires-clause-taker : goal.is_dead-requires-clause-taker
 is_dead-requires-clause-taker c =
     let g = c.args.editor.now.now in
-    let some = sym (at_place g c.args.links.now c.args.q c.requires.links c.requires.place) ∙ c.in-Some.is in
+    let some = sym c.link_at.ensures ∙ c.in-Some.is in
     omega (arith, (link_is g c.args.q c.in-Some.link c.requires.draft.narrow some).taker_below, c.requires.levels.long)
 
 pub is_dead-requires-clause-to : goal.is_dead-requires-clause-to
@@ -22,9 +18,9 @@ returns-then-q-sought c shut l at other =
     let g = c.args.editor.now.now in
     let s = c.args.sought in
     let k = c.in-Some.link in
-    let some = sym (at_place g c.args.links.now c.args.q c.requires.links c.requires.place) ∙ c.in-Some.is in
+    let some = sym c.link_at.ensures ∙ c.in-Some.is in
     subst (λ x. HasPath g s.place x.taker s.taker (s.tokens + 1) (x.tokens + 1) → ⊥) (one_link g c.args.q k l some at)
-    (dead_end g c.args.levels.now s.place s.taker (s.tokens + 1) k c.requires.levels (c.is_dead.ensures (is_true c.is_dead.result shut)))
+    (dead_end g c.args.levels.now s.place s.taker (s.tokens + 1) k c.requires.draft.narrow c.requires.levels (c.is_dead.ensures (is_true c.is_dead.result shut)))
   where
     is_true : (b : Bool) → not b ≡ false → b ≡ true
     is_true true e = refl
@@ -33,5 +29,5 @@ returns-then-q-sought c shut l at other =
 pub returns-in-None : goal.returns-in-None
 returns-in-None c shut l at other =
     let g = c.args.editor.now.now in
-    let none = sym (at_place g c.args.links.now c.args.q c.requires.links c.requires.place) ∙ c.in-None.is in
+    let none = sym c.link_at.ensures ∙ c.in-None.is in
     absurd (none_some l (sym none ∙ at))

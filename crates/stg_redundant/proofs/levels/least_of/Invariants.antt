@@ -1,0 +1,9 @@
+use Rattle.std.proofs.Common.{◌<◌, All, length}
+use Rattle.stg_redundant.proofs.LevelBounds.{AreAboveButLeft}
+use Rattle.stg_redundant.proofs.levels.least_of.Given as goal
+
+abbrev pub invariant-loop-t : goal.invariant-loop-t
+invariant-loop-t l = record {
+  in_range : All (λ x. x.0 < length l.numbers) l.t-iterator;
+  above : AreAboveButLeft l.numbers l.least l.t-iterator l.fn.trans;
+}
