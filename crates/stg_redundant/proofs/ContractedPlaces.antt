@@ -71,7 +71,8 @@ module _ (g : Graph) (t : ℕ) where
       (omega (arith, ltb-false 0 (takes g t p) parts.0), omega (arith, ltb-false 0 (gives g t p) parts.1))
 
   -- a new place stands for a pair
-  pub new_place : (p : ℕ) → IsNewPlace g p → IsPlace (contracted g t) p → StandsForPair g t p
+  pub new_place : (p : ℕ) → IsNewPlace (length g.places) p → IsPlace (contracted g t) p
+      → StandsForPair g t p
   new_place p new live = elim (cases_lt (p - length g.places) (length (pairs_round g t))) [
     | inl low ↦
         let x = get_or (pairs_round g t) (p - length g.places) (0, 0) in
@@ -141,12 +142,16 @@ module _ (g : Graph) (t : ℕ) where
         few = omega (arith, sum_by-cons (tokens_at g) pair.before (pair.after ∷ []), sum_by-cons (tokens_at g) pair.after [], pair_tokens);
       }
 
+  -- a place that came with the contraction
+  abbrev IsNew : ℕ → Type 0
+  IsNew = IsNewPlace (length g.places)
+
   -- a new link, and a place near t that was none
   abbrev LinksCount : Type 0
-  LinksCount = HasLinkAmong (contracted g t) (IsNewPlace g) × HasOtherAmong g (IsNearPlace g t)
+  LinksCount = HasLinkAmong (contracted g t) IsNew × HasOtherAmong g (IsNearPlace g t)
 
   -- a live place is new or stays the same
-  new_or_same : (p : ℕ) → IsPlace (contracted g t) p → IsNewPlace g p ⊎ IsSameIn g (contracted g t) p
+  new_or_same : (p : ℕ) → IsPlace (contracted g t) p → IsNew p ⊎ IsSameIn g (contracted g t) p
   new_or_same p live = elim (cases_lt p (length g.places)) [
     | inl old ↦ inr (same_contracted p old live)
     | inr new ↦ inl new
@@ -156,29 +161,31 @@ module _ (g : Graph) (t : ℕ) where
   link_replaced : IsWeightlessPastLast g → IsPureOrdinary g t → (q : ℕ) → q < length g.places
       → IsPlace (contracted g t) q → (p a b : ℕ) → IsLink (contracted g t) a b p → p ≢ q
       → LinksCount ⊎ LeadBeside g q a b (tokens_at (contracted g t) p)
-  link_replaced narrow pure q old live p a b l other = elim (cases_lt p (length g.places)) [
-    | inl stays ↦ inr (link_leads g (contracted g t) q a b p (same_contracted p stays (link_live g (contracted g t) p a b l)) l other)
-    | inr new ↦
-        let pair = new_place p new (link_live g (contracted g t) p a b l) in
-        let counts : HasLinkAmong (contracted g t) (IsNewPlace g) = record { place = p; one = new; is_link = record { giver = a; taker = b; link = l } } in
-        let free = arcs_none q old live in
-        elim (link_or_none g pair.before narrow) [
-          | inr no_link ↦ inl (counts, record { place = pair.before; one = inl pair.taken; no_link = no_link })
-          | inl x ↦ elim (link_or_none g pair.after narrow) [
-            | inr no_link ↦ inl (counts, record { place = pair.after; one = inr pair.given; no_link = no_link })
-            | inl y ↦ inr (pair_leads narrow p pair pure a b l q free.0 free.1 x y)
-          ]
-        ]
-  ]
+  link_replaced narrow pure q old q_live p a b l other =
+      let live = link_live g (contracted g t) p a b l in
+      elim (cases_lt p (length g.places)) [
+        | inl stays ↦ inr (link_leads g (contracted g t) q a b p (same_contracted p stays live) l other)
+        | inr new ↦
+            let pair = new_place p new live in
+            let counts : HasLinkAmong (contracted g t) IsNew = record { place = p; one = new; is_link = record { giver = a; taker = b; link = l } } in
+            let free = arcs_none q old q_live in
+            elim (link_or_none g pair.before narrow) [
+              | inr no_link ↦ inl (counts, record { place = pair.before; one = inl pair.taken; no_link = no_link })
+              | inl x ↦ elim (link_or_none g pair.after narrow) [
+                | inr no_link ↦ inl (counts, record { place = pair.after; one = inr pair.given; no_link = no_link })
+                | inl y ↦ inr (pair_leads narrow p pair pure a b l q free.0 free.1 x y)
+              ]
+            ]
+      ]
 
   -- what is redundant once t is contracted, where nothing was before, is in reach
   pub contraction_reaches : IsWeightlessPastLast g → IsPureOrdinary g t
       → ((p : ℕ) → ¬ IsRedundantPlace g p) → (q : ℕ) → IsRedundantPlace (contracted g t) q
       → IsReachedByContraction g t q
-  contraction_reaches narrow pure none q redundant = elim (cases_lt q (length g.places)) [
-    | inr new ↦ itself new
-    | inl old ↦
-        let h = contracted g t in
-        let live = redundant_live h q redundant in
-        stays_in_reach g h q LinksCount (link_replaced narrow pure q old live) (IsNewPlace g) none new_or_same (same_contracted q old live) redundant
-  ]
+  contraction_reaches narrow pure none q redundant =
+      let h = contracted g t in
+      let live = redundant_live h q redundant in
+      elim (cases_lt q (length g.places)) [
+        | inr new ↦ itself live new
+        | inl old ↦ stays_in_reach g h q LinksCount (link_replaced narrow pure q old live) IsNew none new_or_same (same_contracted q old live) redundant
+      ]

@@ -9,4 +9,5 @@ pub mod LinkTables
 pub mod EditedPlaces
 pub mod WatchedPlaces
 pub mod ContractedPlaces
+pub mod WatchLists
 mod Examples

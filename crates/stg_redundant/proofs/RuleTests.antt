@@ -174,7 +174,7 @@ loop_place_there g p s = λ i. nowhere (length g.trans) (λ t. takes g t p) (λ 
     ]
 
 -- a live place is one of the list
-place_below : (g : Graph) (q : ℕ) → IsPlace g q → q < length g.places
+pub place_below : (g : Graph) (q : ℕ) → IsPlace g q → q < length g.places
 place_below g q live = elim (cases_lt q (length g.places)) [ inl l ↦ l | inr past ↦ absurd (false≢true (sym (ap is_some (get_or_past g.places q None past)) ∙ live)) ]
 
 -- where no place is told, none has the same arcs

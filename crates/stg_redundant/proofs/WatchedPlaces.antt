@@ -90,8 +90,9 @@ module _ (g : Graph) (t : ℕ) where
       → IsRedundantPlace (without_trans g t) q → IsReachedByDeletion g t q
   trans_deletion_reaches none q redundant =
       let h = without_trans g t in
-      elim (near_or_same q (redundant_live h q redundant)) [
-        | inl near ↦ itself near
+      let live = redundant_live h q redundant in
+      elim (near_or_same q live) [
+        | inl near ↦ itself live near
         | inr s ↦ stays_in_reach g h q (HasLinkAmong h (IsNearPlace g t)) (λ p a b l other. elim (near_or_same p (link_live g h p a b l)) [
           | inl near ↦ inl (record { place = p; one = near; is_link = record { giver = a; taker = b; link = l } })
           | inr r ↦ inr (link_leads g h q a b p r l other)

@@ -14,13 +14,14 @@ use crate::found::{PlaceFound, PlaceRule};
 use crate::levels::Levels;
 use crate::search::has_chain;
 use crate::walks::{are_at_most, are_same, first_of};
+use crate::watch::PlaceWatch;
 use std::alloc::Global;
 use std::collections::BinaryHeap;
 use stg_edit::{Editor, Walk};
 use stg_net::NoMemory;
 
 /// Whether there is a live place of that number.
-fn has_place(editor: &Editor, p: u32) -> bool
+pub fn has_place(editor: &Editor, p: u32) -> bool
     ensures { result ≡ is_some (place_at editor.now.now p) }
 {
     editor.is_place(p)
@@ -146,20 +147,29 @@ fn rule_of(
     Ok(None)
 }
 
+/// The first rule by which the place of a number is redundant.
+pub fn rule_at(
+    editor: &Editor,
+    levels: &Levels,
+    rooms: &mut [u64],
+    list: &mut BinaryHeap<(u64, u32)>,
+    p: u32,
+) -> Result<Option<PlaceRule>, NoMemory>
+    requires levels { IsLevelled editor.now.now levels.now }
+    requires rooms { length rooms.old ≡ length editor.now.now.trans }
+    ensures value { IfOk result (λ rule. IsPlaceRuleOf editor.now.now p rule) }
+    ensures len { length rooms.new ≡ length rooms.old }
+{
+    if has_place(editor, p) {
+        return rule_of(editor, levels, rooms, list, p);
+    }
+    Ok(None)
+}
+
 /// The redundant place of greatest number, with its first rule.
 pub fn redundant_place(alloc: Global, editor: &Editor) -> Result<Option<PlaceFound>, NoMemory>
     ensures { IfOk result (λ found. IsPlaceFound editor.now.now found) }
 {
-    let levels = Levels::of(alloc, editor)?;
-    let mut rooms = vec![in alloc; 0u64; editor.all_trans() as usize]?;
-    let mut list = BinaryHeap::new(alloc);
-    for p in (0..editor.next_place()).rev() {
-        if has_place(editor, p) {
-            match rule_of(editor, &levels, &mut rooms, &mut list, p)? {
-                Some(rule) => return Ok(Some(PlaceFound { place: p, rule })),
-                None => {}
-            }
-        }
-    }
-    Ok(None)
+    let mut watch = PlaceWatch::of(alloc, editor)?;
+    watch.next(editor)
 }
