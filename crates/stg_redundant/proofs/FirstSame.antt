@@ -63,7 +63,7 @@ first_has P t [] all e = absurd (cc)
 first_has P t (x ∷ xs) all e = subst P (let s : x.0 ≡ t = cc in s) (All-head (λ (x : ℕ × ℕ). P x.0) x xs all)
 
 -- and it has a weight
-first_weighs : (n : ℕ) (w : ℕ → ℕ) (t : ℕ) → first_of (weighted n w) ≡ Some t → 0 < w t
+pub first_weighs : (n : ℕ) (w : ℕ → ℕ) (t : ℕ) → first_of (weighted n w) ≡ Some t → 0 < w t
 first_weighs n w t e = first_has (λ k. 0 < w k) t (weighted n w) (each_from (λ (x : ℕ × ℕ). 0 < w x.0) w n 0 (λ k l r some. some)) e
 
 -- the first place from which the first taker takes, and that is the same, is the first of all

@@ -10,4 +10,7 @@ pub mod EditedPlaces
 pub mod WatchedPlaces
 pub mod ContractedPlaces
 pub mod WatchLists
+pub mod Besides
+pub mod Reaching
+pub mod StillWatched
 mod Examples

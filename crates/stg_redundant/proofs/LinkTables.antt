@@ -27,7 +27,7 @@ kept_enough g p b q rooms k at enough l e other =
     subst (IsRelaxed g p b rooms) (one_link g q k l at e) (λ h. enough)
 
 -- a number with a weight is among those that a walk gives
-among_from : (w : ℕ → ℕ) (k m a : ℕ) → a ≤ k → k < a + m → 0 < w k → IsAmong k (weighted_from w a m)
+pub among_from : (w : ℕ → ℕ) (k m a : ℕ) → a ≤ k → k < a + m → 0 < w k → IsAmong k (weighted_from w a m)
 among_from w k zero a low high some = absurd (omega (arith, low, high))
 among_from w k (suc m) a low high some = elim (cases_eq a k) [
   | inl e ↦ rw (lt-ltb 0 (w a) (omega (arith, some, ap w e))) (inl e)

@@ -44,7 +44,7 @@ equal_at : (n : ℕ) (f h : ℕ → ℕ) → weighted n f ≡ weighted n h → (
 equal_at n f h e k low = sym (weight_in-weighted f n 0 k (omega arith) (omega (arith, low))) ∙ ap (weight_in k) e ∙ weight_in-weighted h n 0 k (omega arith) (omega (arith, low))
 
 -- the same weights everywhere, where there are none from n on
-everywhere : (n : ℕ) (f h : ℕ → ℕ) → ((k : ℕ) → n ≤ k → f k ≡ 0) → ((k : ℕ) → n ≤ k → h k ≡ 0)
+pub everywhere : (n : ℕ) (f h : ℕ → ℕ) → ((k : ℕ) → n ≤ k → f k ≡ 0) → ((k : ℕ) → n ≤ k → h k ≡ 0)
     → are_same (weighted n f) (weighted n h) ≡ true → (k : ℕ) → f k ≡ h k
 everywhere n f h f_past h_past e k = elim (cases_lt k n) [
   | inl low ↦ equal_at n f h (same_equal (weighted n f) (weighted n h) e) k low
@@ -52,7 +52,7 @@ everywhere n f h f_past h_past e k = elim (cases_lt k n) [
 ]
 
 -- and equal weights everywhere give the same lists
-nowhere : (n : ℕ) (f h : ℕ → ℕ) → ((k : ℕ) → f k ≡ h k)
+pub nowhere : (n : ℕ) (f h : ℕ → ℕ) → ((k : ℕ) → f k ≡ h k)
     → are_same (weighted n f) (weighted n h) ≡ true
 nowhere n f h same = same_from (weighted n f) (weighted n h) (weighted_same n n f h refl (λ k low. same k))
 

@@ -18,7 +18,7 @@ use Rattle.stg_redundant.specs.Watching.{AreWatched, KeepsRedundant, HasBesides}
 use Rattle.stg_redundant.proofs.RuleTests.{redundant_live, place_below}
 
 -- an element is the first one, or one of the others
-contains_split : (x q : ℕ) (xs : List ℕ) → Contains (x ∷ xs) q → Contains xs q ⊎ (q ≡ x)
+pub contains_split : (x q : ℕ) (xs : List ℕ) → Contains (x ∷ xs) q → Contains xs q ⊎ (q ≡ x)
 contains_split x q xs c = elim c.0 as (λ k. (k < suc (length xs)) → (get_or (x ∷ xs) k q ≡ q) → Contains xs q ⊎ (q ≡ x)) [
   | zero ↦ λ l e. inr (sym e)
   | suc k ↦ λ l e. inl (k, omega (arith, l), e)

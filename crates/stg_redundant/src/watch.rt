@@ -54,6 +54,7 @@ impl PlaceWatch {
     pub fn add(&mut self, p: u32) -> Result<(), NoMemory>
         ensures ok { OnOk result (HasBesides (λ q. q ≡ p) self.old self.new) }
         ensures err { OnErr result (self.new ≡ self.old) }
+        ensures kept { HasNoneBesides self.new self.old }
     {
         insert(&mut self.numbers, p)
     }
@@ -115,6 +116,7 @@ fn insert(numbers: &mut Vec<u32>, p: u32) -> Result<(), NoMemory>
     ensures ok { OnOk result (HasBesides (λ q. q ≡ p) numbers.old.items numbers.new.items) }
     ensures ascending { IsStrictlyIncreasing numbers.new.items }
     ensures err { OnErr result (numbers.new.items ≡ numbers.old.items) }
+    ensures kept { HasNoneBesides numbers.new.items numbers.old.items }
 {
     match numbers.binary_search(&p) {
         Ok(_) => Ok(()),

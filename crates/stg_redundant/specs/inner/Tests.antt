@@ -27,6 +27,12 @@ abbrev pub first_in : (ℕ → Bool) → List (ℕ × ℕ) → Option ℕ
 first_in test [] = None
 first_in test (x ∷ xs) = if test x.0 then Some x.0 else first_in test xs
 
+-- whether q is a live place with the arcs of p
+abbrev pub has_arcs_of : Graph → ℕ → ℕ → Bool
+has_arcs_of g p q = is_some (place_at g q)
+    && are_same (taking_trans g p) (taking_trans g q)
+    && are_same (giving_trans g p) (giving_trans g q)
+
 -- whether q is another live place with the arcs of p and at most its tokens
 abbrev pub is_same_place : Graph → ℕ → ℕ → Bool
 is_same_place g p q =

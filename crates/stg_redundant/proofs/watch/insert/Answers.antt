@@ -1,4 +1,4 @@
-use Rattle.std.proofs.Common.{◌≡◌, ◌<◌, ◌≤◌, ℕ, List, length, get_or, nat_cmp, Err, subst, sym}
+use Rattle.std.proofs.Common.{◌≡◌, ◌<◌, ◌≤◌, ℕ, List, length, get_or, nat_cmp, Err, Contains, inl, subst, sym}
 use Rattle.std.specs.List.Sorted.{IsStrictlyIncreasing, IsBinarySearchResult}
 use Rattle.std.proofs.lemmas.List.Sorted.{searched}
 use Rattle.stg_redundant.specs.Watching.{HasBesides}
@@ -17,3 +17,7 @@ returns-in_ok-insert-in-Err-clause-ascending c =
     let is = subst (IsBinarySearchResult (λ y. nat_cmp y c.args.p) xs) c.in-Err.is (subst (λ (ys : List ℕ). IsBinarySearchResult (λ y. nat_cmp y c.args.p) ys c.binary_search.result) c.deref.ensures.value c.binary_search.ensures.position) in
     let at = searched xs c.args.p (Err c.in-Err.at) is up in
     subst IsStrictlyIncreasing (sym c.in_ok-insert-in-Err.ensures.items) (insert_ascends xs c.in-Err.at c.args.p c.requires.ascending at.0 at.1 at.2)
+
+pub returns-in_ok-insert-in-Err-clause-kept : goal.returns-in_ok-insert-in-Err-clause-kept
+returns-in_ok-insert-in-Err-clause-kept c q h =
+    subst (λ (ys : List ℕ). Contains ys q) (sym c.in_ok-insert-in-Err.ensures.items) ((insert_has c.args.numbers.now.items c.in-Err.at c.args.p q).1 (inl h))
