@@ -119,11 +119,11 @@ unset xs t = elim (cases_lt t (length xs)) [
   | inr past ↦ rw (set_past xs t 0 past) (get_or_past xs t 0 past)
 ]
 
-taken_none : (t : ℕ) (o : Option Place) → taken_by t (without_arcs_of t o) ≡ 0
+pub taken_none : (t : ℕ) (o : Option Place) → taken_by t (without_arcs_of t o) ≡ 0
 taken_none t None = refl
 taken_none t (Some x) = unset x.taken t
 
-given_none : (t : ℕ) (o : Option Place) → given_by t (without_arcs_of t o) ≡ 0
+pub given_none : (t : ℕ) (o : Option Place) → given_by t (without_arcs_of t o) ≡ 0
 given_none t None = refl
 given_none t (Some x) = unset x.given t
 

@@ -101,7 +101,7 @@ left_there_at g t u v y m e = record {
 
 module _ (g : Graph) (t : ℕ) (dummy : IsDummy g t) where
   -- rivals meet round t, in one order or the other, or at a place that is left
-  abbrev Meets : ℕ → ℕ → Type 0
+  abbrev pub Meets : ℕ → ℕ → Type 0
   Meets u v = (Meet g t u v ⊎ Meet g t v u) ⊎ MeetLeft g t u v
 
   by_origin : (u v : ℕ) (o : Origin) → IsOriginAt g t o → AreRivals g u v → 0 < sum_over o (takes g u)
@@ -121,7 +121,7 @@ module _ (g : Graph) (t : ℕ) (dummy : IsDummy g t) where
   ]
 
   -- a clash of the contracted graph is of rivals that meet
-  clash_meets : (u v r : ℕ) → IsAutoConflict (contracted g t) u v r → Meets u v
+  pub clash_meets : (u v r : ℕ) → IsAutoConflict (contracted g t) u v r → Meets u v
   clash_meets u v r c =
       let k = contracted-IsContraction g t in
       let u_other = k.gone u (live_from (contracted g t) u c.rivals.t_name c.rivals.t_has) in
@@ -159,7 +159,7 @@ module _ (g : Graph) (t : ℕ) (dummy : IsDummy g t) where
         u_takes = omega (arith, k.taken v r (known_live g v rivals.u_known) v_other, vp);
       }
 
-  meet_clash : (u v : ℕ) → Meet g t u v → (r : ℕ) × IsAutoConflict (contracted g t) u v r
+  pub meet_clash : (u v : ℕ) → Meet g t u v → (r : ℕ) × IsAutoConflict (contracted g t) u v r
   meet_clash u v m =
       let o = (contracted-IsContraction g t).pair m.before m.after m.taken m.given in
       (o.0, clash_from u v o.0 m.rivals (omega (arith, ap (λ x. sum_over x (takes g u)) o.1, m.u_takes)) (omega (arith, ap (λ x. sum_over x (takes g v)) o.1, m.v_takes)))

@@ -10,5 +10,8 @@ pub mod ContractedSizes
 pub mod OneVerdict
 pub mod Calm
 pub mod InitialCalm
+pub mod SameRound
+pub mod RoundEdits
+pub mod DummyEdits
 pub mod WorkedNets
 mod Examples

@@ -2,4 +2,5 @@ pub mod Verdicts
 pub mod Calm
 pub mod Room
 pub mod Laws
+pub mod Neighbours
 pub mod inner
