@@ -13,5 +13,6 @@ pub mod InitialCalm
 pub mod SameRound
 pub mod RoundEdits
 pub mod DummyEdits
+pub mod QueueOrder
 pub mod WorkedNets
 mod Examples

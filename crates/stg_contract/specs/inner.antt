@@ -5,4 +5,5 @@ pub mod Searches
 pub mod Counts
 pub mod Sums
 pub mod Judging
+pub mod Queues
 pub mod Worked

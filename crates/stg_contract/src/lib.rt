@@ -9,6 +9,7 @@ mod large;
 mod laws;
 mod left;
 mod pure;
+mod queue;
 mod reach;
 mod rivals;
 #[cfg(test)]
