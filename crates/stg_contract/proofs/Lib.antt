@@ -14,5 +14,6 @@ pub mod SameRound
 pub mod RoundEdits
 pub mod DummyEdits
 pub mod QueueOrder
+pub mod WatchSteps
 pub mod WorkedNets
 mod Examples

@@ -6,4 +6,5 @@ pub mod Counts
 pub mod Sums
 pub mod Judging
 pub mod Queues
+pub mod Watches
 pub mod Worked

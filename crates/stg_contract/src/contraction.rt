@@ -13,15 +13,23 @@ use crate::verdict::Cost;
 use crate::walks::count_all;
 use stg_edit::Editor;
 
+/// How many places the contraction of a live transition makes.
+pub(crate) fn count_new_places(editor: &Editor, t: u32) -> u64
+    requires { IsTrans editor.now.now t }
+    ensures { result ≡ made_places editor.now.now t }
+{
+    let before = count_all(editor.takes(t));
+    let after = count_all(editor.gives(t));
+    before.saturating_mul(after)
+}
+
 /// Counts the places that the contraction of a live transition makes. It takes time for the arcs
 /// of the transition alone.
 pub fn new_places(editor: &Editor, t: u32) -> u32
     requires { IsTrans editor.now.now t }
     ensures { result ≡ min (made_places editor.now.now t) (2 ^ 32 - 1) }
 {
-    let before = count_all(editor.takes(t));
-    let after = count_all(editor.gives(t));
-    before.saturating_mul(after).min(u32::MAX as u64) as u32
+    count_new_places(editor, t).min(u32::MAX as u64) as u32
 }
 
 /// Counts the places and arcs that the contraction of a live transition makes. It looks at each

@@ -77,7 +77,7 @@ fn find_reason(editor: &Editor, t: u32, reach: Reach) -> Option<Verdict>
 }
 
 /// The verdict on a dummy.
-fn judge(editor: &Editor, t: u32, reach: Reach) -> Verdict
+pub fn judge(editor: &Editor, t: u32, reach: Reach) -> Verdict
     requires dummy { IsDummy editor.now.now t }
     requires reach { IsFarEnough reach editor.now.now }
     ensures { verdicts.IsVerdict editor.now.now t result }

@@ -19,6 +19,7 @@ mod secure;
 mod tests;
 mod verdict;
 mod walks;
+mod watch;
 #[cfg(test)]
 mod worked;
 
