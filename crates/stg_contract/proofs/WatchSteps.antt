@@ -1,17 +1,18 @@
 -- The steps of a search for the cheapest candidate of a watch.
-use Rattle.std.proofs.Common.{◌≡◌, ◌≢◌, ◌<◌, ◌≤◌, ◌⊎◌, ◌∷◌, [], ℕ, zero, suc, true, List, Option, Some, None, All, Contains, is_some, length, get_or, set, refl, sym, ap, ◌∙◌, subst, inl, inr, arith}
+use Rattle.std.proofs.Common.{◌≡◌, ◌≢◌, ◌<◌, ◌≤◌, ◌⊎◌, ◌++◌, ◌∷◌, [], ℕ, zero, suc, cond, eq-eqb, map, true, List, Option, Some, None, All, Contains, is_some, length, get_or, set, refl, sym, ap, ◌∙◌, subst, inl, inr, arith}
 use Rattle.std.specs.List.Sorted.{IsPermutation}
-use Rattle.std.proofs.lemmas.Bool.{cases_eq, cases_lt, false≢true}
+use Rattle.std.proofs.lemmas.Bool.{cases_eq, cases_lt, ne_eqb, false≢true}
 use Rattle.std.proofs.lemmas.List.{get_or-set_same, get_or-set_other, length-set}
-use Rattle.std.proofs.lemmas.List.Elements.{All-cons, All-head, All-tail}
-use Rattle.std.proofs.lemmas.List.Sorted.{All-permutation, Contains-permutation}
+use Rattle.std.proofs.lemmas.List.Elements.{All-nil, All-cons, All-head, All-tail, All-append, All-map, Contains-append_left, Contains-append_right}
+use Rattle.std.proofs.lemmas.List.Sorted.{All-permutation, Contains-permutation, IsPermutation-map, IsPermutation-sym, IsPermutation-trans, IsPermutation-middle, IsPermutation-append_left, IsPermutation-append_right}
 use Rattle.stg_net.specs.Graph.{Graph, IsDummy}
+use Rattle.stg_laws.proofs.ListMembers.{Contains-map}
 use Rattle.stg_edit.specs.Replacing.{new_places}
 use Rattle.stg_contract.specs.Neighbours.{MayContract}
 use Rattle.stg_contract.specs.Candidates.{IsCandidate, IsCheapest}
-use Rattle.stg_contract.specs.WatchedDummies.{least_places, IsWatchedDummy, WatchesCandidates}
-use Rattle.stg_contract.specs.inner.Queues.{ComesFirst}
-use Rattle.stg_contract.specs.inner.Watches.{AreEntriesBelow, IsUnderWay}
+use Rattle.stg_contract.specs.WatchedDummies.{least_places, IsWatchedDummy, WatchesCandidates, AreLeastPlaces, DropsHopeless}
+use Rattle.stg_contract.specs.inner.Queues.{Queued, ComesFirst}
+use Rattle.stg_contract.specs.inner.Watches.{AreEntriesBelow, AreQueued, IsUnderWay, toil_of, unweighed, unweighed_entry}
 
 -- an element of a list with one more is the first or stands in the rest
 pub contained : {X : Type 0} (x y : X) (xs : List X) → Contains (x ∷ xs) y → (x ≡ y) ⊎ Contains xs y
@@ -58,8 +59,24 @@ watched_kept watch t w = go (least_places watch t) refl w
 pub all_at : {X : Type 0} (P : X → Type 0) (xs : List X) (x : X) → All P xs → Contains xs x → P x
 all_at P xs x all c = subst P c.2 (all c.0 x c.1)
 
+-- the order in which entries wait tells nothing
+pub reordered : (g : Graph) (old now : List (Option ℕ)) (waiting more aside : List (ℕ × ℕ))
+    → IsUnderWay g old now waiting aside → IsPermutation waiting more → IsUnderWay g old now more aside
+reordered g old now waiting more aside way p = record {
+  listed = λ u m e. elim (way.listed u m e) [
+    | inr a ↦ inr a
+    | inl w ↦ inl (Contains-permutation waiting more (m, u) p w)
+  ];
+  below = All-permutation (λ (x : ℕ × ℕ). x.1 < length now) waiting more p way.below;
+  aside_below = way.aside_below;
+  no_candidate = way.no_candidate;
+  least = way.least;
+  drops = way.drops;
+}
+
 module _ (g : Graph) (old now : List (Option ℕ)) (t n : ℕ) (waiting aside : List (ℕ × ℕ)) (way : IsUnderWay g old now ((n, t) ∷ waiting) aside) where
-  there : t < length now
+  -- the dummy of the entry is one of the numbers
+  pub there : t < length now
   there = All-head (λ (x : ℕ × ℕ). x.1 < length now) (n, t) waiting way.below
 
   rest_below : AreEntriesBelow (length now) waiting
@@ -166,20 +183,6 @@ module _ (g : Graph) (old now : List (Option ℕ)) (t n : ℕ) (waiting aside : 
         };
       }
 
-  -- it is put back
-  pub put_back : (more : List (ℕ × ℕ)) → IsPermutation ((n, t) ∷ waiting) more → IsUnderWay g old now more aside
-  put_back more p = record {
-    listed = λ u m e. elim (way.listed u m e) [
-      | inr a ↦ inr a
-      | inl w ↦ inl (Contains-permutation ((n, t) ∷ waiting) more (m, u) p w)
-    ];
-    below = All-permutation (λ (x : ℕ × ℕ). x.1 < length now) ((n, t) ∷ waiting) more p way.below;
-    aside_below = way.aside_below;
-    no_candidate = way.no_candidate;
-    least = way.least;
-    drops = way.drops;
-  }
-
   -- it is no candidate, and is put aside
   pub put_aside : (more : List (ℕ × ℕ)) → ¬ IsCandidate g t → IsPermutation ((n, t) ∷ aside) more
       → IsUnderWay g old now waiting more
@@ -236,3 +239,120 @@ none_left g old now aside way watches t c =
       | inr a ↦ all_at (λ (x : ℕ × ℕ). ¬ IsCandidate g x.1) aside (k.number, t) way.no_candidate a c
       | inl w ↦ absurd (omega (arith, w.1))
     ]
+
+-- a search begins
+pub way_begins : (g : Graph) (watch : List (Option ℕ)) (q : Queued) → AreQueued watch q → AreLeastPlaces g watch
+    → IsUnderWay g watch watch q.waiting q.aside
+way_begins g watch q queued least = record {
+  listed = λ t n e. inl (queued.listed t n e);
+  below = queued.below;
+  aside_below = subst (AreEntriesBelow (length watch)) (sym queued.none_aside) (All-nil (λ (x : ℕ × ℕ). x.1 < length watch));
+  no_candidate = subst (All (λ (x : ℕ × ℕ). ¬ IsCandidate g x.1)) (sym queued.none_aside) (All-nil (λ (x : ℕ × ℕ). ¬ IsCandidate g x.1));
+  least = least;
+  drops = record { as_long = refl; only = λ t w. w; hopeful = λ t w d may. w };
+}
+
+-- and ends, when what is put aside waits again
+pub way_ends : (g : Graph) (old now : List (Option ℕ)) (waiting aside : List (ℕ × ℕ)) (q : Queued)
+    → IsUnderWay g old now waiting aside → IsPermutation (waiting ++ aside) q.waiting → q.aside ≡ []
+    → AreQueued now q
+way_ends g old now waiting aside q way p none = record {
+  listed = λ t n e. Contains-permutation (waiting ++ aside) q.waiting (n, t) p (elim (way.listed t n e) [
+    | inl w ↦ Contains-append_left waiting aside (n, t) w
+    | inr a ↦ Contains-append_right waiting aside (n, t) a
+  ]);
+  below = All-permutation (λ (x : ℕ × ℕ). x.1 < length now) (waiting ++ aside) q.waiting p (All-append (λ (x : ℕ × ℕ). x.1 < length now) waiting aside way.below way.aside_below);
+  none_aside = none;
+}
+
+-- each entry takes some toil
+pub toil_some : (g : Graph) (x : ℕ × ℕ) → 0 < toil_of g x
+toil_some g x = elim (cases_eq x.0 (new_places g x.1)) [
+  | inl e ↦ omega (arith, ap {B = ℕ} (λ b. cond b 1 2) (eq-eqb x.0 (new_places g x.1) e))
+  | inr n ↦ omega (arith, ap {B = ℕ} (λ b. cond b 1 2) (ne_eqb x.0 (new_places g x.1) n))
+]
+
+-- less with the right number of places than with another one
+pub toil_weighed : (g : Graph) (n m t : ℕ) → n ≢ m → m ≡ new_places g t → toil_of g (m, t) < toil_of g (n, t)
+toil_weighed g n m t differ is =
+    omega (arith, ap {B = ℕ} (λ b. cond b 1 2) (eq-eqb m (new_places g t) is), ap {B = ℕ} (λ b. cond b 1 2) (ne_eqb n (new_places g t) (λ e. differ (e ∙ sym is))))
+
+-- each entry that waits, with 0 places, waits or is put aside
+pub forgotten : (all waiting rest aside more : List (ℕ × ℕ)) (n t : ℕ)
+    → IsPermutation (map unweighed_entry all) (map unweighed_entry waiting ++ aside)
+    → IsPermutation waiting ((n, t) ∷ rest) → IsPermutation ((0, t) ∷ aside) more
+    → IsPermutation (map unweighed_entry all) (map unweighed_entry rest ++ more)
+forgotten all waiting rest aside more n t before popped put =
+    let mapped = IsPermutation-append_left aside (map unweighed_entry waiting) ((0, t) ∷ map unweighed_entry rest) (IsPermutation-map unweighed_entry waiting ((n, t) ∷ rest) popped) in
+    let moved = IsPermutation-sym (map unweighed_entry rest ++ (0, t) ∷ aside) ((0, t) ∷ (map unweighed_entry rest ++ aside)) (IsPermutation-middle (map unweighed_entry rest) (0, t) aside) in
+    let joined = IsPermutation-append_right (map unweighed_entry rest) ((0, t) ∷ aside) more put in
+    IsPermutation-trans (map unweighed_entry all) (map unweighed_entry waiting ++ aside) (map unweighed_entry rest ++ more) before
+    (IsPermutation-trans (map unweighed_entry waiting ++ aside) ((0, t) ∷ (map unweighed_entry rest ++ aside)) (map unweighed_entry rest ++ more) mapped
+    (IsPermutation-trans ((0, t) ∷ (map unweighed_entry rest ++ aside)) (map unweighed_entry rest ++ (0, t) ∷ aside) (map unweighed_entry rest ++ more) moved joined))
+
+-- what was kept where 0 places are kept
+record KeptBefore (watch : List (Option ℕ)) (t n : ℕ) : Type 0 where
+  number : ℕ
+  was : least_places watch t ≡ Some number
+  zero_now : n ≡ 0
+
+kept_before : (watch : List (Option ℕ)) (t n : ℕ) → unweighed (least_places watch t) ≡ Some n → KeptBefore watch t n
+kept_before watch t n = go (least_places watch t) refl
+  where
+    go : (o : Option ℕ) → least_places watch t ≡ o → unweighed o ≡ Some n → KeptBefore watch t n
+    go None was e = absurd (none_some n e)
+    go (Some m) was e = record { number = m; was = was; zero_now = let f : 0 ≡ n = cc in sym f }
+
+unweighed_some : (o : Option ℕ) → is_some (unweighed o) ≡ is_some o
+unweighed_some None = refl
+unweighed_some (Some n) = refl
+
+module _ (old new : List (Option ℕ)) (long : length new ≡ length old) (same : (t : ℕ) → least_places new t ≡ unweighed (least_places old t)) where
+  -- with 0 places kept, what was queued waits with 0 places
+  pub forgotten_queue : (q r : Queued) → AreQueued old q → IsPermutation (map unweighed_entry q.waiting) r.waiting
+      → r.aside ≡ [] → AreQueued new r
+  forgotten_queue q r queued p none = record {
+    listed = λ t n e.
+        let k = kept_before old t n (sym (same t) ∙ e) in
+        let c = queued.listed t k.number k.was in
+        Contains-permutation (map unweighed_entry q.waiting) r.waiting (n, t) p (subst (λ m. Contains (map unweighed_entry q.waiting) (m, t)) (sym k.zero_now) (Contains-map unweighed_entry q.waiting (k.number, t) c));
+    below = All-permutation (λ (x : ℕ × ℕ). x.1 < length new) (map unweighed_entry q.waiting) r.waiting p (subst (λ k. All (λ (x : ℕ × ℕ). x.1 < k) (map unweighed_entry q.waiting)) (sym long) (All-map (λ (x : ℕ × ℕ). x.1 < length old) unweighed_entry q.waiting queued.below));
+    none_aside = none;
+  }
+
+  pub watched_before : (t : ℕ) → IsWatchedDummy new t → IsWatchedDummy old t
+  watched_before t w = sym (ap is_some (same t) ∙ unweighed_some (least_places old t)) ∙ w
+
+  pub watched_after : (t : ℕ) → IsWatchedDummy old t → IsWatchedDummy new t
+  watched_after t w = ap is_some (same t) ∙ unweighed_some (least_places old t) ∙ w
+
+  -- no contraction makes fewer places than 0
+  pub forgotten_least : (g : Graph) → AreLeastPlaces g new
+  forgotten_least g t n e d = let k = kept_before old t n (sym (same t) ∙ e) in omega (arith, k.zero_now)
+
+  -- what is dropped after that is dropped
+  pub forgotten_drops : (g : Graph) (later : List (Option ℕ)) → DropsHopeless g new later → DropsHopeless g old later
+  forgotten_drops g later d = record {
+    as_long = d.as_long ∙ long;
+    only = λ t w. watched_before t (d.only t w);
+    hopeful = λ t w dummy may. d.hopeful t (watched_after t w) dummy may;
+  }
+
+  pub forgotten_watches : (g : Graph) → WatchesCandidates g old → WatchesCandidates g new
+  forgotten_watches g watches t c = watched_after t (watches t c)
+
+-- a dummy is added
+pub added_queue : (watch : List (Option ℕ)) (t : ℕ) (q r : Queued) → AreQueued watch q → t < length watch
+    → IsPermutation ((0, t) ∷ q.waiting) r.waiting → r.aside ≡ q.aside
+    → AreQueued (set watch t (Some 0)) r
+added_queue watch t q r queued low p aside = record {
+  listed = λ u n e. Contains-permutation ((0, t) ∷ q.waiting) r.waiting (n, u) p (elim (cases_eq u t) [
+    | inl same ↦
+        let numbers : Some 0 ≡ Some n = sym (least-set watch t (Some 0) low) ∙ ap (least_places (set watch t (Some 0))) (sym same) ∙ e in
+        let is : 0 ≡ n = cc in
+        subst (λ (x : ℕ × ℕ). Contains ((0, t) ∷ q.waiting) x) (λ i. (is i, sym same i)) (first_contained (0, t) q.waiting)
+    | inr differs ↦ later_contained (0, t) (n, u) q.waiting (queued.listed u n (sym (least-set_other watch t u (Some 0) differs) ∙ e))
+  ]);
+  below = subst (λ k. AreEntriesBelow k r.waiting) (sym (length-set watch t (Some 0))) (All-permutation (λ (x : ℕ × ℕ). x.1 < length watch) ((0, t) ∷ q.waiting) r.waiting p (All-cons (λ (x : ℕ × ℕ). x.1 < length watch) (0, t) q.waiting low queued.below));
+  none_aside = aside ∙ queued.none_aside;
+}

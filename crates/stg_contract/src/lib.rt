@@ -27,3 +27,4 @@ pub use contraction::{contract, cost, new_places};
 pub use judge::{test, test_calm};
 pub use laws::{law_calm, law_one_verdict};
 pub use verdict::{Cost, Verdict};
+pub use watch::DummyWatch;

@@ -1,0 +1,8 @@
+use Rattle.stg_contract.specs.inner.Watches.{IsUnderWay, toil}
+use Rattle.stg_contract.proofs.watch.search.Given as goal
+
+abbrev pub invariant-loop-queue : goal.invariant-loop-queue
+invariant-loop-queue l = IsUnderWay l.editor.now l.initial.least l.least l.queue.waiting l.queue.aside
+
+abbrev pub decreases-loop-queue : goal.decreases-loop-queue
+decreases-loop-queue l = toil l.editor.now l.queue.waiting
