@@ -11,7 +11,8 @@ use Rattle.stg_contract.proofs.PlaceSums.{count_arcs-contracted}
 use Rattle.stg_derive.specs.declared.choice.Choice.{Choice}
 use Rattle.stg_derive.specs.declared.step.Secure.{Secure}
 use Rattle.stg_derive.specs.declared.step.Secure.TheVariants.{Type1, Type2}
-use Rattle.stg_derive.specs.Steps.{verdict_of, IsNextContraction, IsAtRest, HasNoRedundantPlace, HasNoRedundantDummy, IsCandidate}
+use Rattle.stg_contract.specs.Candidates.{IsCandidate}
+use Rattle.stg_derive.specs.Steps.{verdict_of, IsNextContraction, IsAtRest, HasNoRedundantPlace, HasNoRedundantDummy}
 use Rattle.stg_derive.specs.inner.Choices.{IsBestBelow, IsTypeOf, is_fewer}
 use Rattle.stg_derive.specs.Derivations.{IsLeastDummy}
 use Rattle.stg_derive.proofs.StepEffects.{few_new, live_trans_below}

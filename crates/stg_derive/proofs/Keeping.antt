@@ -14,7 +14,8 @@ use Rattle.stg_laws.proofs.Names.{live_from}
 use Rattle.stg_laws.proofs.TransDeletion.{without_trans-IsWithout, dummy_deletion_keeps_names}
 use Rattle.stg_derive.specs.declared.step.Step.{Step}
 use Rattle.stg_derive.specs.declared.step.Step.TheVariants.{Contract, DropPlace, DropDummy}
-use Rattle.stg_derive.specs.Steps.{IsPlainStep, IsCandidate, stepped}
+use Rattle.stg_contract.specs.Candidates.{IsCandidate}
+use Rattle.stg_derive.specs.Steps.{IsPlainStep, stepped}
 use Rattle.stg_derive.specs.Attempts.{stepped_all, ArePlainSteps}
 use Rattle.stg_derive.proofs.StepEffects.{redundant_place_by, redundant_dummy_by}
 

@@ -27,7 +27,8 @@ use Rattle.stg_derive.specs.Attempts.{stepped_all, ArePlainSteps, IsAttempt}
 use Rattle.stg_derive.specs.declared.part.Part.{Part}
 use Rattle.stg_derive.specs.Derivations.{IsStuck, known_with, with_restored, AreGivenBack}
 use Rattle.stg_derive.specs.Loggable.{IsLoggable, log_limit, IsLoggableVerdict, IsLoggableRecord, IsLoggablePlaceRule, IsLoggableDummyRule, IsLoggableStep}
-use Rattle.stg_derive.specs.Steps.{IsPlainStep, stepped, IsCandidate}
+use Rattle.stg_contract.specs.Candidates.{IsCandidate}
+use Rattle.stg_derive.specs.Steps.{IsPlainStep, stepped}
 use Rattle.stg_derive.specs.inner.Drafts.{HasFewPlaces}
 use Rattle.stg_derive.specs.inner.UnderWay.{HasTransBelow}
 use Rattle.stg_derive.proofs.Counting.{count_le}

@@ -7,7 +7,8 @@ use Rattle.stg_laws.specs.RedundantDummies.{IsRedundantDummy}
 use Rattle.stg_edit.specs.Replacing.{new_places}
 use Rattle.stg_contract.specs.declared.verdict.Verdict.{Verdict}
 use Rattle.stg_contract.specs.declared.verdict.Verdict.TheVariants as verdict
-use Rattle.stg_contract.specs.Verdicts.{IsContractible, IsVerdict}
+use Rattle.stg_contract.specs.Verdicts.{IsVerdict}
+use Rattle.stg_contract.specs.Candidates.{IsCandidate, IsCheapest}
 use Rattle.stg_redundant.specs.Rules.{IsPlaceFound, IsDummyFound}
 use Rattle.stg_derive.specs.declared.step.Secure.{Secure}
 use Rattle.stg_derive.specs.declared.step.Secure.TheVariants.{Type1, Type2}
@@ -26,17 +27,6 @@ HasNoRedundantPlace g = (p : ℕ) → ¬ IsRedundantPlace g p
 -- no dummy is redundant
 abbrev pub HasNoRedundantDummy : Graph → Type 0
 HasNoRedundantDummy g = (t : ℕ) → ¬ IsRedundantDummy g t
-
--- t is a contractible dummy
-pub record IsCandidate (g : Graph) (t : ℕ) : Type 0 where
-  pub dummy : IsDummy g t
-  pub contractible : IsContractible g t
-
--- t is the candidate whose contraction makes the fewest places, the least number among equals
-pub record IsCheapest (g : Graph) (t : ℕ) : Type 0 where
-  pub candidate : IsCandidate g t
-  pub cheapest : (u : ℕ) → IsCandidate g u → (new_places g t < new_places g u)
-      ⊎ ((new_places g t ≡ new_places g u) × (t ≤ u))
 
 -- nothing is redundant, t is the cheapest candidate, its contraction is secure by this type, and it
 -- makes that many places

@@ -6,7 +6,8 @@ use Rattle.stg_contract.specs.declared.verdict.Verdict.{Verdict}
 use Rattle.stg_contract.specs.declared.verdict.Verdict.TheVariants.{Type1, Type2}
 use Rattle.stg_contract.specs.Verdicts.{IsVerdict}
 use Rattle.stg_derive.specs.declared.step.Secure.{Secure}
-use Rattle.stg_derive.specs.Steps.{verdict_of, IsCandidate}
+use Rattle.stg_contract.specs.Candidates.{IsCandidate}
+use Rattle.stg_derive.specs.Steps.{verdict_of}
 use Rattle.stg_derive.specs.declared.choice.Choice.{Choice}
 
 -- the answer to whether t is a dummy
