@@ -15,5 +15,7 @@ pub mod RoundEdits
 pub mod DummyEdits
 pub mod QueueOrder
 pub mod WatchSteps
+pub mod WatchAdds
+pub mod WatchEdits
 pub mod WorkedNets
 mod Examples

@@ -38,3 +38,7 @@ pub record DropsHopeless (g : Graph) (old new : List (Option ℕ)) : Type 0 wher
 pub record AddsDummies (old new : List (Option ℕ)) : Type 0 where
   pub as_long : length new ≡ length old
   pub kept : (t : ℕ) → (least_places new t ≡ least_places old t) ⊎ (least_places new t ≡ Some 0)
+
+-- the watch keeps 0 places for u, where u is a dummy
+abbrev pub IsAdded : Graph → List (Option ℕ) → ℕ → Type 0
+IsAdded g watch u = IsDummy g u → least_places watch u ≡ Some 0

@@ -2,13 +2,14 @@
 
 ghost use Rattle.std.specs.Prelude.{◌≡◌, ◌<◌, ◌≤◌, ◌+◌, ◌++◌, ◌∷◌, ◌↔◌, [], ℕ, List, Option, All, IsTrue, IfOk, IfSome, OnOk, OnErr, None, Some, true, false, map, length, slice_set};
 ghost use Rattle.std.specs.List.Sorted.{IsPermutation};
-ghost use Rattle.stg_net.specs.Graph.{IsTrans, IsDummy};
+ghost use Rattle.stg_net.specs.Graph.{IsPlace, IsTrans, IsDummy};
 ghost use Rattle.stg_edit.specs.Replacing.{new_places as made_places};
 ghost use Rattle.stg_contract.specs.Calm.{IsCalm};
 ghost use Rattle.stg_contract.specs.Candidates.{IsCandidate, IsCheapest};
-ghost use Rattle.stg_contract.specs.WatchedDummies.{least_places, IsWatchedDummy, WatchesCandidates, AreLeastPlaces, DropsHopeless};
+ghost use Rattle.stg_contract.specs.WatchedDummies.{least_places, IsWatchedDummy, WatchesCandidates, AreLeastPlaces, DropsHopeless, AddsDummies, IsAdded};
+ghost use Rattle.stg_contract.specs.Neighbours.{HasArc, AreNeighbours};
 ghost use Rattle.stg_contract.specs.inner.Judging.{IsFarEnough};
-ghost use Rattle.stg_contract.specs.inner.Watches.{IsOutlook, AreQueued, IsUnderWay, toil_of, toil, unweighed, unweighed_entry};
+ghost use Rattle.stg_contract.specs.inner.Watches.{IsOutlook, AreQueued, IsUnderWay, toil_of, toil, unweighed, unweighed_entry, HasNumber};
 
 use crate::contraction::count_new_places;
 use crate::judge::judge;
@@ -17,7 +18,7 @@ use crate::reach::Reach;
 use crate::verdict::Verdict;
 use std::alloc::Global;
 use std::marker::Model;
-use stg_edit::Editor;
+use stg_edit::{Editor, Walk};
 use stg_net::NoMemory;
 
 /// What a verdict leaves to hope for.
@@ -217,8 +218,7 @@ impl DummyWatch {
     /// Watches each live dummy.
     pub fn of(alloc: Global, editor: &Editor) -> Result<DummyWatch, NoMemory>
         ensures long { IfOk result (λ w. length w ≡ length editor.now.now.trans) }
-        ensures watched { IfOk result
-            (λ w. (t : ℕ) → IsDummy editor.now.now t → least_places w t ≡ Some 0) }
+        ensures watched { IfOk result (λ w. (t : ℕ) → IsAdded editor.now.now w t) }
         ensures only { IfOk result
             (λ w. (t : ℕ) → IsWatchedDummy w t → IsDummy editor.now.now t) }
     {
@@ -250,6 +250,34 @@ impl DummyWatch {
         Ok(())
     }
 
+    /// Watches each dummy that takes from a live place or gives to it. After an error some of them
+    /// may not be watched.
+    pub fn add_at(&mut self, editor: &Editor, p: u32) -> Result<(), NoMemory>
+        requires place { IsPlace editor.now.now p }
+        requires long { length self.old ≡ length editor.now.now.trans }
+        ensures added { OnOk result ((u : ℕ) → HasArc editor.now.now u p
+            → IsAdded editor.now.now self.new u) }
+        ensures kept { AddsDummies self.old self.new }
+    {
+        add_all(self, editor, editor.takers(p))?;
+        add_all(self, editor, editor.givers(p))?;
+        Ok(())
+    }
+
+    /// Watches each dummy that has an arc with a place with which a live transition has one. After
+    /// an error some of them may not be watched.
+    pub fn add_round(&mut self, editor: &Editor, t: u32) -> Result<(), NoMemory>
+        requires live { IsTrans editor.now.now t }
+        requires long { length self.old ≡ length editor.now.now.trans }
+        ensures added { OnOk result ((u : ℕ) → AreNeighbours editor.now.now t u
+            → IsAdded editor.now.now self.new u) }
+        ensures kept { AddsDummies self.old self.new }
+    {
+        add_at_each(self, editor, editor.takes(t))?;
+        add_at_each(self, editor, editor.gives(t))?;
+        Ok(())
+    }
+
     /// Gives the cheapest candidate of any draft. It weighs and tests all watched dummies anew, and
     /// no longer watches those that it finds hopeless, or no dummies.
     pub fn cheapest(&mut self, editor: &Editor) -> Option<u32>
@@ -276,4 +304,43 @@ impl DummyWatch {
     {
         search(editor, &mut self.least, &mut self.queue, Reach::Near)
     }
+}
+
+/// Watches a transition, where it is a dummy.
+fn add_dummy(watch: &mut DummyWatch, editor: &Editor, t: u32) -> Result<(), NoMemory>
+    requires { t < length watch.old }
+    ensures added { OnOk result (IsAdded editor.now.now watch.new t) }
+    ensures kept { AddsDummies watch.old watch.new }
+{
+    if is_dummy(editor, t) {
+        return watch.add(t);
+    }
+    Ok(())
+}
+
+/// Watches each dummy of a walk.
+fn add_all(watch: &mut DummyWatch, editor: &Editor, trans: Walk<'_>) -> Result<(), NoMemory>
+    requires { All (λ x. x.0 < length watch.old) trans }
+    ensures added { OnOk result ((u : ℕ) → HasNumber u trans.entry
+        → IsAdded editor.now.now watch.new u) }
+    ensures kept { AddsDummies watch.old watch.new }
+{
+    for (t, _) in trans {
+        add_dummy(watch, editor, t)?;
+    }
+    Ok(())
+}
+
+/// Watches each dummy that has an arc with a place of a walk.
+fn add_at_each(watch: &mut DummyWatch, editor: &Editor, places: Walk<'_>) -> Result<(), NoMemory>
+    requires places { All (λ x. IsPlace editor.now.now x.0) places }
+    requires long { length watch.old ≡ length editor.now.now.trans }
+    ensures added { OnOk result ((p u : ℕ) → HasNumber p places.entry
+        → HasArc editor.now.now u p → IsAdded editor.now.now watch.new u) }
+    ensures kept { AddsDummies watch.old watch.new }
+{
+    for (p, _) in places {
+        watch.add_at(editor, p)?;
+    }
+    Ok(())
 }

@@ -1,5 +1,5 @@
 -- How a search for the cheapest candidate of a watch stands.
-use Rattle.std.specs.Prelude.{◌≡◌, ◌==◌, ◌<◌, ◌⊎◌, ℕ, List, [], Option, Some, None, All, Contains, length, sum_by, if◌then◌else◌}
+use Rattle.std.specs.Prelude.{◌≡◌, ◌==◌, ◌<◌, ◌⊎◌, ℕ, List, [], ◌∷◌, Option, Some, None, All, Contains, length, sum_by, if◌then◌else◌}
 use Rattle.stg_net.specs.Graph.{Graph}
 use Rattle.stg_edit.specs.Replacing.{new_places}
 use Rattle.stg_contract.specs.declared.watch.Outlook.{Outlook}
@@ -54,3 +54,8 @@ unweighed (Some n) = Some 0
 -- the entry with 0 places
 abbrev pub unweighed_entry : ℕ × ℕ → ℕ × ℕ
 unweighed_entry x = (0, x.1)
+
+-- the number is one of those of the entries
+abbrev pub HasNumber : ℕ → List (ℕ × ℕ) → Type 0
+HasNumber u [] = ⊥
+HasNumber u (x ∷ xs) = (x.0 ≡ u) ⊎ HasNumber u xs

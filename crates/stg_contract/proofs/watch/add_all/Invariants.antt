@@ -1,0 +1,11 @@
+use Rattle.std.proofs.Common.{◌⊎◌, ◌<◌, ℕ, All, length}
+use Rattle.stg_contract.specs.WatchedDummies.{AddsDummies, IsAdded}
+use Rattle.stg_contract.specs.inner.Watches.{HasNumber}
+use Rattle.stg_contract.proofs.watch.add_all.Given as goal
+
+abbrev pub invariant-loop-t : goal.invariant-loop-t
+invariant-loop-t l = record {
+  kept : AddsDummies l.fn.watch l.watch;
+  below : All (λ (x : ℕ × ℕ). x.0 < length l.watch) l.t-iterator;
+  added : (u : ℕ) → HasNumber u l.fn.trans → HasNumber u l.t-iterator ⊎ IsAdded l.editor.now l.watch u;
+}
