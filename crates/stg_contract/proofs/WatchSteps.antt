@@ -56,8 +56,8 @@ watched_kept watch t w = go (least_places watch t) refl w
     go (Some n) e h = record { number = n; is = e }
 
 -- what holds of all holds of each that stands in the list
-pub all_at : {X : Type 0} (P : X → Type 0) (xs : List X) (x : X) → All P xs → Contains xs x → P x
-all_at P xs x all c = subst P c.2 (all c.0 x c.1)
+pub contains_at : {X : Type 0} (P : X → Type 0) (xs : List X) (x : X) → All P xs → Contains xs x → P x
+contains_at P xs x all c = subst P c.2 (all c.0 x c.1)
 
 -- the order in which entries wait tells nothing
 pub reordered : (g : Graph) (old now : List (Option ℕ)) (waiting more aside : List (ℕ × ℕ))
@@ -220,12 +220,12 @@ module _ (g : Graph) (old now : List (Option ℕ)) (t n : ℕ) (waiting aside : 
           let may : MayContract g u = record { contraction = c.contractible.contraction; no_conflict = c.contractible.no_conflict } in
           let k = watched_kept now u (way.drops.hopeful u (watches u c) c.dummy may) in
           elim (way.listed u k.number k.is) [
-            | inr a ↦ absurd (all_at (λ (x : ℕ × ℕ). ¬ IsCandidate g x.1) aside (k.number, u) way.no_candidate a c)
+            | inr a ↦ absurd (contains_at (λ (x : ℕ × ℕ). ¬ IsCandidate g x.1) aside (k.number, u) way.no_candidate a c)
             | inl w ↦ elim (contained (n, t) (k.number, u) waiting w) [
               | inl same ↦
                   let trans : t ≡ u = ap (λ (x : ℕ × ℕ). x.1) same in
                   inr (ap (new_places g) trans, omega (arith, trans))
-              | inr later_on ↦ later u k.number (way.least u k.number k.is c.dummy) (all_at (ComesFirst (n, t)) waiting (k.number, u) first later_on)
+              | inr later_on ↦ later u k.number (way.least u k.number k.is c.dummy) (contains_at (ComesFirst (n, t)) waiting (k.number, u) first later_on)
             ]
           ]
 
@@ -236,7 +236,7 @@ none_left g old now aside way watches t c =
     let may : MayContract g t = record { contraction = c.contractible.contraction; no_conflict = c.contractible.no_conflict } in
     let k = watched_kept now t (way.drops.hopeful t (watches t c) c.dummy may) in
     elim (way.listed t k.number k.is) [
-      | inr a ↦ all_at (λ (x : ℕ × ℕ). ¬ IsCandidate g x.1) aside (k.number, t) way.no_candidate a c
+      | inr a ↦ contains_at (λ (x : ℕ × ℕ). ¬ IsCandidate g x.1) aside (k.number, t) way.no_candidate a c
       | inl w ↦ absurd (omega (arith, w.1))
     ]
 

@@ -13,4 +13,5 @@ pub mod WatchLists
 pub mod Besides
 pub mod Reaching
 pub mod StillWatched
+pub mod FlagSteps
 mod Examples

@@ -1,4 +1,5 @@
 pub mod Rules
 pub mod Watching
 pub mod Levelled
+pub mod FlaggedDummies
 pub mod inner

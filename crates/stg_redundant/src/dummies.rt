@@ -11,7 +11,7 @@ use crate::walks::{are_same, first_of};
 use stg_edit::{Editor, Walk};
 
 /// Whether there is a live dummy of that number.
-fn is_dummy(editor: &Editor, t: u32) -> bool
+pub fn is_dummy(editor: &Editor, t: u32) -> bool
     ensures { result ≡ tests.is_live_dummy editor.now.now t }
 {
     editor.is_trans(t) && editor.is_dummy(t)
@@ -80,7 +80,7 @@ fn find_same(editor: &Editor, t: u32) -> Option<u32>
 }
 
 /// The first rule by which a dummy is redundant.
-fn rule_of(editor: &Editor, t: u32) -> Option<DummyRule>
+pub fn rule_of(editor: &Editor, t: u32) -> Option<DummyRule>
     requires { IsDummy editor.now.now t }
     ensures { IsDummyRuleOf editor.now.now t result }
 {
