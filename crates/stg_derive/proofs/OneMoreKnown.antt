@@ -19,7 +19,8 @@ use Rattle.stg_derive.specs.declared.step.Secure.{Secure}
 use Rattle.stg_derive.specs.declared.step.Secure.TheVariants.{Type1, Type2}
 use Rattle.stg_derive.specs.declared.step.Step.{Step}
 use Rattle.stg_derive.specs.declared.step.Step.TheVariants.{Contract, DropPlace, DropDummy}
-use Rattle.stg_derive.specs.Steps.{verdict_of, IsCandidate, IsPlainStep, stepped}
+use Rattle.stg_contract.specs.Candidates.{IsCandidate}
+use Rattle.stg_derive.specs.Steps.{verdict_of, IsPlainStep, stepped}
 use Rattle.stg_derive.specs.Attempts.{stepped_all, ArePlainSteps}
 
 -- the graph with these signals known

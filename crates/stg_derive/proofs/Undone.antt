@@ -27,7 +27,7 @@ use Rattle.stg_derive.specs.Steps.{IsPlainStep, IsAtRest, stepped}
 use Rattle.stg_derive.specs.Attempts.{stepped_all, ArePlainSteps, IsAttempt}
 use Rattle.stg_derive.specs.Derivations.{IsStuck, known_with, with_restored}
 use Rattle.stg_derive.specs.Undoing.{AllStay, IsKeptNumber, IsUndoneBy, AreUndone}
-use Rattle.stg_derive.specs.inner.UnderWay.{drafts_before, IsFirstUndone, IsNotedWhere, IsGone, noted_below, kept_steps, IsUnderWay, AreUndoneBy}
+use Rattle.stg_derive.specs.inner.UnderWay.{drafts_before, IsFirstUndone, IsNotedWhere, IsGone, noted_below, kept_steps, IsAttemptSoFar, AreUndoneBy}
 use Rattle.stg_derive.proofs.OneMoreKnown.{knowing, stepped_all-knowing}
 use Rattle.stg_derive.proofs.Staying.{kept_are_plain}
 use Rattle.stg_derive.proofs.Noting.{take-take, drafts-last, length-drafts, drafts-knowing, IsApartIn, apart_stay, first-knowing, first-last, first-take, kept_of, stays_unless, gone_goes}
@@ -115,7 +115,7 @@ pub record IsGivenBack (n : NetLists) (a b : Attempt) (signal kept : ℕ) : Type
 module _ (n : NetLists) (within : IsWithin PART n) (none : HasNoAutoConflict (graph_of n)) (net : IsNet n) where
   -- an attempt begins
   pub begun : (a : Attempt) (known : List ℕ) → All (λ s. s < length n.signals) known → a.known ≡ known → a.editor.now ≡ initial n known → a.editor.past ≡ [] → a.editor.signals ≡ n.signals → a.steps.items ≡ []
-      → length a.first_undone.items ≡ length n.signals → ((k : ℕ) → get_or a.first_undone.items k None ≡ None) → IsUnderWay n a
+      → length a.first_undone.items ≡ length n.signals → ((k : ℕ) → get_or a.first_undone.items k None ≡ None) → IsAttemptSoFar n a
   begun a known range e now past signals steps long notes = record {
     range = subst (All (λ k. k < length n.signals)) (sym e) range;
     plain = subst (ArePlainSteps (initial n a.known)) (sym steps) tt;
@@ -130,7 +130,7 @@ module _ (n : NetLists) (within : IsWithin PART n) (none : HasNoAutoConflict (gr
   }
 
   -- an attempt goes on with a plain step
-  pub step_made : (a b : Attempt) (s : Step) (first : ℕ) → IsUnderWay n a → IsPlainStep a.editor.now s → IsStepMade n a b s first → IsUnderWay n b
+  pub step_made : (a b : Attempt) (s : Step) (first : ℕ) → IsAttemptSoFar n a → IsPlainStep a.editor.now s → IsStepMade n a b s first → IsAttemptSoFar n b
   step_made a b s first u p made =
       let g0 = initial n a.known in
       let steps = a.steps.items in
@@ -189,7 +189,7 @@ module _ (n : NetLists) (within : IsWithin PART n) (none : HasNoAutoConflict (gr
   drafts_shown known signal g (s ∷ steps) range e =
       λ i. shown_is known signal g range e i ∷ drafts_shown known signal (stepped g s) steps range (step_known g s ∙ e) i
 
-  pub undoing_begins : (a : Attempt) (signal : ℕ) (known : List ℕ) → IsUnderWay n a → signal < length n.signals → a.editor.undone < 2 ^ 64 → known ≡ known_with n a.known signal → IsUndoing n a (record a { known = known }) signal (kept_steps a signal)
+  pub undoing_begins : (a : Attempt) (signal : ℕ) (known : List ℕ) → IsAttemptSoFar n a → signal < length n.signals → a.editor.undone < 2 ^ 64 → known ≡ known_with n a.known signal → IsUndoing n a (record a { known = known }) signal (kept_steps a signal)
   undoing_begins a signal known u below counted e =
       let number = kept_of n signal (initial n a.known) a.steps.items (get_or a.first_undone.items signal None) (u.noted signal below) in
       record {
@@ -235,7 +235,7 @@ module _ (n : NetLists) (within : IsWithin PART n) (none : HasNoAutoConflict (gr
       }
 
   -- and the attempt is under way again
-  pub given_back : (a b : Attempt) (signal : ℕ) → IsUnderWay n a → signal < length n.signals → IsGivenBack n a b signal (kept_steps a signal) → IsUnderWay n b
+  pub given_back : (a b : Attempt) (signal : ℕ) → IsAttemptSoFar n a → signal < length n.signals → IsGivenBack n a b signal (kept_steps a signal) → IsAttemptSoFar n b
   given_back a b signal u below back =
       let g0 = initial n a.known in
       let kept = kept_steps a signal in
@@ -267,7 +267,7 @@ module _ (n : NetLists) (within : IsWithin PART n) (none : HasNoAutoConflict (gr
       }
 
 -- an attempt that rests is one of the net
-pub attempt_rests : (n : NetLists) (a : Attempt) → IsUnderWay n a → IsAtRest a.editor.now → IsAttempt (initial n a.known) a.steps.items
+pub attempt_rests : (n : NetLists) (a : Attempt) → IsAttemptSoFar n a → IsAtRest a.editor.now → IsAttempt (initial n a.known) a.steps.items
 attempt_rests n a u rests = record { plain = u.plain; rests = subst IsAtRest u.leads rests }
 
 -- nothing is undone at first
@@ -282,7 +282,7 @@ undone-last n known (x ∷ restored) r number more are by =
     (are.0, are.1 + more, are.2, rest, omega (arith, are.4))
 
 -- and what is counted of it
-pub counted-last : (n : NetLists) (begun : List ℕ) (restored : List Restore) (a : Attempt) (r : Restore) (undone : ℕ) → IsUnderWay n a → IsAtRest a.editor.now → a.known ≡ with_restored n begun restored → r.signal < length n.signals
+pub counted-last : (n : NetLists) (begun : List ℕ) (restored : List Restore) (a : Attempt) (r : Restore) (undone : ℕ) → IsAttemptSoFar n a → IsAtRest a.editor.now → a.known ≡ with_restored n begun restored → r.signal < length n.signals
     → AreUndoneBy n begun restored a.editor.undone → undone ≡ min (a.editor.undone + (length a.steps.items - kept_steps a r.signal)) (2 ^ 64 - 1) → AreUndoneBy n begun (restored ++ r ∷ []) undone
 counted-last n begun restored a r undone u rests known below are e =
     let more = length a.steps.items - kept_steps a r.signal in

@@ -6,7 +6,7 @@ ghost use Rattle.stg_net.specs.Net.{IsNet, IsWithin};
 ghost use Rattle.stg_net.specs.Initial.{graph_of};
 ghost use Rattle.stg_laws.specs.Conflict.{HasNoAutoConflict};
 ghost use Rattle.stg_derive.specs.Steps.{IsPlainStep, IsAtRest, stepped};
-ghost use Rattle.stg_derive.specs.inner.UnderWay.{IsUnderWay};
+ghost use Rattle.stg_derive.specs.inner.UnderWay.{IsAttemptSoFar};
 
 use crate::Step;
 use crate::choice::next_step;
@@ -61,9 +61,9 @@ fn make_step(net: &Net, attempt: &mut Attempt, step: Step) -> Result<(), NoMemor
     requires within { IsWithin PART net.now }
     requires is_net { IsNet net.now }
     requires no_conflict { HasNoAutoConflict (graph_of net.now) }
-    requires under_way { IsUnderWay net.now attempt.old }
+    requires under_way { IsAttemptSoFar net.now attempt.old }
     requires plain { IsPlainStep attempt.old.editor.now step }
-    ensures under_way { OnOk result (IsUnderWay net.now attempt.new) }
+    ensures under_way { OnOk result (IsAttemptSoFar net.now attempt.new) }
     ensures now { OnOk result
         (attempt.new.editor.now ≡ stepped attempt.old.editor.now step) }
     ensures undone { attempt.new.editor.undone ≡ attempt.old.editor.undone }
@@ -90,7 +90,7 @@ pub fn begin(alloc: Global, net: &Net, known: &Nums) -> Result<Attempt, NoMemory
     requires is_net { IsNet net.now }
     requires no_conflict { HasNoAutoConflict (graph_of net.now) }
     requires in_range { All (λ s. s < length net.now.signals) known.now }
-    ensures under_way { IfOk result (IsUnderWay net.now) }
+    ensures under_way { IfOk result (IsAttemptSoFar net.now) }
     ensures undone { IfOk result (λ a. a.editor.undone ≡ 0) }
     ensures known { IfOk result (λ a. a.known ≡ known.now) }
 {
@@ -107,8 +107,8 @@ pub fn go_on(alloc: Global, net: &Net, attempt: &mut Attempt) -> Result<(), NoMe
     requires within { IsWithin PART net.now }
     requires is_net { IsNet net.now }
     requires no_conflict { HasNoAutoConflict (graph_of net.now) }
-    requires under_way { IsUnderWay net.now attempt.old }
-    ensures under_way { OnOk result (IsUnderWay net.now attempt.new) }
+    requires under_way { IsAttemptSoFar net.now attempt.old }
+    ensures under_way { OnOk result (IsAttemptSoFar net.now attempt.new) }
     ensures rests { OnOk result (IsAtRest attempt.new.editor.now) }
     ensures undone { attempt.new.editor.undone ≡ attempt.old.editor.undone }
     ensures known { attempt.new.known ≡ attempt.old.known }

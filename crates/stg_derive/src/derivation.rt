@@ -18,7 +18,7 @@ ghost use Rattle.stg_derive.specs.declared.part.Restore.{Restore};
 ghost use Rattle.stg_derive.specs.Loggable.{IsLoggable};
 ghost use Rattle.stg_derive.specs.Steps.{IsAtRest};
 ghost use Rattle.stg_derive.specs.Undoing.{IsExactlyWorn};
-ghost use Rattle.stg_derive.specs.inner.UnderWay.{IsUnderWay, AreUndoneBy};
+ghost use Rattle.stg_derive.specs.inner.UnderWay.{IsAttemptSoFar, AreUndoneBy};
 ghost use Rattle.stg_derive.specs.Derivations.{IsLeastDummy, IsRecord, IsDerivedPart, AreGivenBack, with_restored, hidden_signals};
 
 use crate::attempt::{Attempt, begin, go_on};
@@ -61,7 +61,7 @@ fn finish(
         (names_at net.now group.now.known) }
     requires known { attempt.known ≡ with_restored net.now group.now.known restored }
     requires given_back { AreGivenBack net.now group.now.known restored }
-    requires under_way { IsUnderWay net.now attempt }
+    requires under_way { IsAttemptSoFar net.now attempt }
     requires rests { IsAtRest attempt.editor.now }
     requires no_dummy { HasNoDummy attempt.editor.now }
     requires undone { AreUndoneBy net.now group.now.known restored attempt.editor.undone }

@@ -7,7 +7,7 @@ ghost use Rattle.stg_net.specs.Net.{IsNet, IsWithin};
 ghost use Rattle.stg_net.specs.Initial.{graph_of};
 ghost use Rattle.stg_laws.specs.Conflict.{HasNoAutoConflict};
 ghost use Rattle.stg_derive.specs.Derivations.{known_with};
-ghost use Rattle.stg_derive.specs.inner.UnderWay.{IsUnderWay, kept_steps};
+ghost use Rattle.stg_derive.specs.inner.UnderWay.{IsAttemptSoFar, kept_steps};
 
 use crate::attempt::Attempt;
 use crate::notes::forget_from;
@@ -67,10 +67,10 @@ pub fn give_back(
     requires within { IsWithin PART net.now }
     requires is_net { IsNet net.now }
     requires no_conflict { HasNoAutoConflict (graph_of net.now) }
-    requires under_way { IsUnderWay net.now attempt.old }
+    requires under_way { IsAttemptSoFar net.now attempt.old }
     requires there { signal < length net.now.signals }
     requires counted { attempt.old.editor.undone < 2 ^ 64 }
-    ensures under_way { OnOk result (IsUnderWay net.now attempt.new) }
+    ensures under_way { OnOk result (IsAttemptSoFar net.now attempt.new) }
     ensures known { OnOk result
         (attempt.new.known ≡ known_with net.now attempt.old.known signal) }
     ensures undone { OnOk result (attempt.new.editor.undone ≡ min (attempt.old.editor.undone

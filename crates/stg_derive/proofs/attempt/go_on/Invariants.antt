@@ -1,11 +1,11 @@
 use Rattle.std.proofs.Common.{◌≡◌}
-use Rattle.stg_derive.specs.inner.UnderWay.{IsUnderWay}
+use Rattle.stg_derive.specs.inner.UnderWay.{IsAttemptSoFar}
 use Rattle.stg_derive.proofs.UnderWay.{left}
 use Rattle.stg_derive.proofs.attempt.go_on.Given as goal
 
 abbrev pub invariant-loop-step : goal.invariant-loop-step
 invariant-loop-step l = record {
-  under_way : IsUnderWay l.net l.attempt;
+  under_way : IsAttemptSoFar l.net l.attempt;
   undone : l.attempt.editor.undone ≡ l.initial.attempt.editor.undone;
   known : l.attempt.known ≡ l.initial.attempt.known;
 }
