@@ -105,7 +105,7 @@ fn finish(
 /// the signal of the least one is given back (backtracking, W. Vogler and R. Wollowski,
 /// *Decomposition in Asynchronous Circuit Design*), and the next attempt begins with the steps that
 /// stay: the others alone are undone. So there is at most one attempt more than there are hidden
-/// signals, and the part's wear has the steps of the last attempt and the undone ones of all others.
+/// signals, and the part's wear has the steps of the last attempt and the undone ones of the others.
 pub fn derive(alloc: Global, spec: &Spec, group: &Group) -> Result<Part, NoMemory>
     requires within { IsWithin SPEC spec.now.net }
     requires in_range { All (λ s. s < length spec.now.net.signals) group.now.known }

@@ -1,4 +1,4 @@
-//! A signal is given back: the steps that don't stay are undone, and the attempt goes on from there.
+//! A signal is given back: the steps that don't stay are undone, and the attempt goes on.
 
 ghost use Rattle.std.specs.Prelude.{◌≡◌, ◌<◌, ◌≤◌, ◌+◌, ◌-◌, ◌^◌, ◌++◌, ◌∷◌, [], ◌||◌, ◌==◌, false, length, min, take, All, IfOk, OnOk};
 ghost use Rattle.stg_net.specs.declared.limits.TheConstants.Limits.{PART};

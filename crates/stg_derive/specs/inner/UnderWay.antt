@@ -65,8 +65,8 @@ abbrev pub kept_steps : Attempt → ℕ → ℕ
 kept_steps a signal = unwrap_or (slice_index_or a.first_undone.items signal None)
     (length a.steps.items)
 
--- an attempt so far: its steps are plain and lead to the draft now, the editor has the drafts before
--- each of them, and for each signal the first step that doesn't stay is noted
+-- an attempt so far: its steps are plain and lead to the draft now, the editor has the drafts
+-- before each of them, and for each signal the first step that doesn't stay is noted
 pub record IsAttemptSoFar (n : NetLists) (a : Attempt) : Type 0 where
   pub range : All (λ s. s < length n.signals) a.known
   pub plain : ArePlainSteps (initial n a.known) a.steps.items
