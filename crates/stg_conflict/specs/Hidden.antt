@@ -17,7 +17,8 @@ pub record HasConflictFrom (g : Graph) (first : ℕ) : Type 0 where
   pub conflict : IsAutoConflict g t u p
   pub late : first ≤ p
 
--- what was noted stays; where nothing was, the step is noted exactly where there is a conflict
+-- what was noted stays; where nothing was, the step is noted exactly where there is a conflict at a
+-- place of the number `first` or a later one
 abbrev pub IsNoted : Graph → ℕ → ℕ → Option ℕ → Option ℕ → Type 0
 IsNoted g first step (Some i) new = new ≡ Some i
 IsNoted g first step None (Some i) = (i ≡ step) × HasConflictFrom g first

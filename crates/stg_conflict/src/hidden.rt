@@ -68,9 +68,9 @@ fn least_of_signal(editor: &Editor, signal: u32) -> Option<Clash>
 }
 
 /// Looks for two different live transitions of the signal that have one label and take from one
-/// place, whether the signal is known or not. Gives the least such pair with the least such place.
-/// Takes time for all transitions, and for the takers of each place from which one of the signal's
-/// transitions takes.
+/// place, whether the signal is known or not. Gives the least such pair with the least such place,
+/// and none where there is no pair. Takes time for all transitions, and, for each of the signal's
+/// transitions, for the takers of the places from which it takes.
 pub fn hidden_clash(editor: &Editor, signal: u32) -> Option<Clash>
     requires { signal < length editor.now.signals }
     ensures none { (result ≡ None)

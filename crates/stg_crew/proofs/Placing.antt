@@ -11,7 +11,7 @@ use Rattle.stg_derive.specs.declared.part.Part.{Part}
 use Rattle.stg_crew.specs.declared.worker.Drawn.{Drawn}
 use Rattle.stg_crew.specs.Claims.{times, AreGroups}
 use Rattle.stg_crew.specs.Drawing.{IsDrawnPart, groups_of}
-use Rattle.stg_crew.specs.Parts.{IsPartOf, AreDerived, no_part, group_in}
+use Rattle.stg_crew.specs.Parts.{IsPartOf, AreDerived, AreExactlyWorn, no_part, group_in}
 use Rattle.stg_crew.specs.inner.Slots.{slot_at, placed}
 use Rattle.stg_crew.proofs.EachBelow.{only_other}
 
@@ -90,9 +90,11 @@ module _ (n : NetLists) (groups : List Group) (slots : List (Option Part)) (part
   all_out P h k d there = h (group_in groups k) (get_or parts k d) (part_out k d there)
 
   pub derived_out : length slots ≡ length groups → AreDerived n groups parts
-  derived_out same =
-      let at : (i : ℕ) → i < length groups → IsPartOf n (group_in groups i) (get_or parts i no_part) = λ i there. part_out i no_part (omega (arith, there, same, as_many_out)) in
-      record { as_many = as_many_out ∙ same; each = λ i there. (at i there).derived; worn = λ i there. (at i there).worn }
+  derived_out same = record { as_many = as_many_out ∙ same; each = λ i there. (part_out i no_part (omega (arith, there, same, as_many_out))).derived }
+
+  -- and they have the wear of these
+  pub worn_out : length slots ≡ length groups → AreExactlyWorn n groups parts
+  worn_out same i there = (part_out i no_part (omega (arith, there, same, as_many_out))).worn
 
 -- a part that goes out stands last
 pub goes_out : (parts : List Part) (part : Part) (slot : Option Part) (rest : List (Option Part)) → slot ≡ Some part → map (λ (part : Part). Some part) (parts ++ part ∷ []) ++ rest ≡ map (λ (part : Part). Some part) parts ++ slot ∷ rest

@@ -40,11 +40,15 @@ abbrev pub AreKnownInRange : NetLists → List Group → Type 0
 AreKnownInRange n groups =
     All (λ (group : Group). All (λ s. s < length n.signals) group.known) groups
 
--- the parts are those of the groups' plain derivations, in the order of the groups, with their wear
+-- the parts are those of the groups' plain derivations, in the order of the groups
 pub record AreDerived (n : NetLists) (groups : List Group) (parts : List Part) : Type 0 where
   pub as_many : length parts ≡ length groups
   pub each : (i : ℕ) → i < length groups → IsDerivedPart n (group_in groups i) (part_at parts i)
-  pub worn : (i : ℕ) → i < length groups → IsExactlyWorn n (group_in groups i) (part_at parts i)
+
+-- each of the parts has the wear of its group's plain derivation
+abbrev pub AreExactlyWorn : NetLists → List Group → List Part → Type 0
+AreExactlyWorn n groups parts =
+    (i : ℕ) → i < length groups → IsExactlyWorn n (group_in groups i) (part_at parts i)
 
 -- the part is that of the group's plain derivation with its wear, and is faithful, can be written
 -- and logged

@@ -14,7 +14,7 @@ ghost use Rattle.stg_derive.specs.Loggable.{IsLoggable};
 ghost use Rattle.stg_crew.specs.declared.kind.SeatKind.TheVariants as kind;
 ghost use Rattle.stg_crew.specs.declared.worker.Drawn.{Drawn as ThisDrawn};
 ghost use Rattle.stg_crew.specs.Claims.{collecting, joined_to, view};
-ghost use Rattle.stg_crew.specs.Parts.{AreKnownInRange, AreDerived};
+ghost use Rattle.stg_crew.specs.Parts.{AreKnownInRange, AreDerived, AreExactlyWorn};
 ghost use Rattle.stg_crew.specs.Seats.{view_of, IsOf};
 ghost use Rattle.stg_crew.specs.inner.Crew.{AreDerivable, IsFresh, IsThrough, HasDrawnParts, AreTakenIn};
 ghost use Rattle.stg_crew.specs.inner.Slots.{placed};
@@ -199,8 +199,8 @@ fn join_all(
 /// Derives the part of each group. There are from 1 to 64 workers, each in a thread of its own
 /// where the system has one for it. Each draws groups by a common count, one at a time, enters the
 /// gate and derives the group, until there is none left; no thread outlives the call. The parts
-/// come in the order of their groups, and but for their wear are the same for every number of
-/// workers, since a group has at most one part (`law_one_derivation`).
+/// come in the order of their groups, and are the same for every number of workers, since a group
+/// has at most one part, and that at most one wear (`law_one_derivation`).
 ///
 /// There are at most 250 groups. The specification has no structural auto-conflict, and each group
 /// knows the signals of all arcs at the places from which its own transitions take.
@@ -221,6 +221,7 @@ pub fn work<R: Threads + Sync, G: Gate>(
     requires closed { AreClosed spec.now.net groups.now }
     requires no_conflict { HasNoAutoConflict (graph_of spec.now.net) }
     ensures parts { IfOk result (λ worked. AreDerived spec.now.net groups.now worked.parts) }
+    ensures worn { IfOk result (λ worked. AreExactlyWorn spec.now.net groups.now worked.parts) }
     ensures nets { IfOk result
         (λ worked. All (λ (part : ThisPart). IsNet part.net) worked.parts) }
     ensures within { IfOk result

@@ -115,7 +115,7 @@ fn refuse(error: GroupError) -> DecompError
 /// signals; together they are a correct decomposition of it, where it is deterministic. Each net
 /// can be written and is read back from its text, and the records and steps of each part can be
 /// logged. The workers, 1 to 64 of them, draw the groups, and the gate is entered before each is
-/// derived; neither changes the parts but for their wear.
+/// derived; neither changes the parts.
 ///
 /// A specification with a structural auto-conflict is answered by the least one, whatever the text
 /// is; another one by the refusal of the text, where it is refused.

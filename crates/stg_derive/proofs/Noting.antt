@@ -16,7 +16,7 @@ use Rattle.stg_derive.specs.declared.step.Step.{Step}
 use Rattle.stg_derive.specs.declared.step.Step.TheVariants.{Contract, DropPlace, DropDummy}
 use Rattle.stg_derive.specs.Steps.{stepped}
 use Rattle.stg_derive.specs.Attempts.{stepped_all}
-use Rattle.stg_derive.specs.Undoing.{IsOfAnother, ComparesWithAnother, Stays, AllStay, IsKeptNumber}
+use Rattle.stg_derive.specs.Undoing.{IsOfAnother, ComparesWithAnother, MayStay, AllStay, IsKeptNumber}
 use Rattle.stg_derive.specs.inner.UnderWay.{drafts_before, IsFirstUndone, IsNotedWhere, ComparesWith, IsGone, noted_below}
 use Rattle.stg_derive.proofs.OneMoreKnown.{knowing, stepped-knowing}
 use Rattle.stg_derive.proofs.UnderWay.{stepped-last}
@@ -46,7 +46,7 @@ module _ (n : NetLists) (signal : ℕ) where
   IsApartIn g = HasNoAutoConflict (with_only n.signals signal g)
 
   -- a step that stays leaves it so
-  apart_stepped : (g : Graph) (s : Step) → IsApartIn g → Stays n signal g s → IsApartIn (stepped g s)
+  apart_stepped : (g : Graph) (s : Step) → IsApartIn g → MayStay n signal g s → IsApartIn (stepped g s)
   apart_stepped g (DropPlace found) none stays = no_conflict-without_place (with_only n.signals signal g) found.place none
   apart_stepped g (DropDummy found) none stays = no_conflict-without_trans (with_only n.signals signal g) found.trans none
   apart_stepped g (Contract t secure places) none stays = stays.1
@@ -57,7 +57,7 @@ module _ (n : NetLists) (signal : ℕ) where
   apart_stay g (s ∷ steps) none stay = apart_stay (stepped g s) steps (apart_stepped g s none stay.0) stay.1
 
   -- whether a step stays isn't changed by what is known
-  stays_knowing : (names : List (List ℕ)) (g : Graph) (s : Step) → Stays n signal g s → Stays n signal (knowing names g) s
+  stays_knowing : (names : List (List ℕ)) (g : Graph) (s : Step) → MayStay n signal g s → MayStay n signal (knowing names g) s
   stays_knowing names g (DropPlace found) stays = stays
   stays_knowing names g (DropDummy found) stays = stays
   stays_knowing names g (Contract t secure places) stays = stays
@@ -72,12 +72,12 @@ module _ (n : NetLists) (signal : ℕ) where
   first-knowing names g steps (Some i) f = (f.0, all_stay-knowing names g (take i steps) f.1, λ stay. f.2 (all_stay-knowing g.known (knowing names g) (take (i + 1) steps) stay))
 
   -- one more step that stays
-  stay-last : (g : Graph) (steps : List Step) (s : Step) → AllStay n signal g steps → Stays n signal (stepped_all g steps) s → AllStay n signal g (steps ++ s ∷ [])
+  stay-last : (g : Graph) (steps : List Step) (s : Step) → AllStay n signal g steps → MayStay n signal (stepped_all g steps) s → AllStay n signal g (steps ++ s ∷ [])
   stay-last g [] s stay more = (more, tt)
   stay-last g (r ∷ steps) s stay more = (stay.0, stay-last (stepped g r) steps s stay.1 more)
 
   -- the last of steps that stay
-  last_stays : (g : Graph) (steps : List Step) (s : Step) → AllStay n signal g (steps ++ s ∷ []) → Stays n signal (stepped_all g steps) s
+  last_stays : (g : Graph) (steps : List Step) (s : Step) → AllStay n signal g (steps ++ s ∷ []) → MayStay n signal (stepped_all g steps) s
   last_stays g [] s stay = stay.0
   last_stays g (r ∷ steps) s stay = last_stays (stepped g r) steps s stay.1
 
@@ -104,13 +104,13 @@ module _ (n : NetLists) (signal : ℕ) where
 
   -- what isn't gone stays
   pub stays_unless : (g : Graph) (first : ℕ) (s : Step) → IsApartIn g → ((t : ℕ) → IsApartIn g → ¬ HasConflictFrom (with_only n.signals signal (contracted g t)) first → IsApartIn (contracted g t))
-      → ¬ IsGone n signal (stepped g s) first s → Stays n signal g s
+      → ¬ IsGone n signal (stepped g s) first s → MayStay n signal g s
   stays_unless g first (DropPlace found) none new left = tt
   stays_unless g first (DropDummy found) none new left = (λ e. left (inl e), compares_other found.rule (λ c. left (inr c)))
   stays_unless g first (Contract t secure places) none new left = (λ e. left (inl e), new t none (λ c. left (inr c)))
 
   -- and what is gone doesn't
-  pub gone_goes : (g : Graph) (first : ℕ) (s : Step) → IsGone n signal (stepped g s) first s → ¬ Stays n signal g s
+  pub gone_goes : (g : Graph) (first : ℕ) (s : Step) → IsGone n signal (stepped g s) first s → ¬ MayStay n signal g s
   gone_goes g first (DropPlace found) gone stays = gone
   gone_goes g first (DropDummy found) (inl e) stays = stays.0 e
   gone_goes g first (DropDummy found) (inr c) stays = compares_not found.rule stays.1 c
@@ -119,7 +119,7 @@ module _ (n : NetLists) (signal : ℕ) where
 
   -- the first step that doesn't stay, after one more step
   pub first-last : (g : Graph) (steps : List Step) (s : Step) (IsSo : Type 0) (old new : Option ℕ) → IsFirstUndone n signal g steps old → IsNotedWhere IsSo (length steps) old new
-      → (IsSo → ¬ Stays n signal (stepped_all g steps) s) → (AllStay n signal g steps → ¬ IsSo → Stays n signal (stepped_all g steps) s) → IsFirstUndone n signal g (steps ++ s ∷ []) new
+      → (IsSo → ¬ MayStay n signal (stepped_all g steps) s) → (AllStay n signal g steps → ¬ IsSo → MayStay n signal (stepped_all g steps) s) → IsFirstUndone n signal g (steps ++ s ∷ []) new
   first-last g steps s IsSo (Some i) new f noted goes keeps =
       subst (IsFirstUndone n signal g (steps ++ s ∷ [])) (sym noted) (
         omega (arith, f.0, length-append steps (s ∷ [])),

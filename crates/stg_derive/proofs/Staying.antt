@@ -19,7 +19,7 @@ use Rattle.stg_derive.specs.declared.step.Step.TheVariants.{Contract, DropPlace,
 use Rattle.stg_derive.specs.Steps.{stepped}
 use Rattle.stg_derive.specs.Attempts.{stepped_all, ArePlainSteps}
 use Rattle.stg_derive.specs.Derivations.{known_with}
-use Rattle.stg_derive.specs.Undoing.{IsOfAnother, ComparesWithAnother, Stays, AllStay}
+use Rattle.stg_derive.specs.Undoing.{IsOfAnother, ComparesWithAnother, MayStay, AllStay}
 use Rattle.stg_derive.proofs.OneMoreKnown.{knowing, stepped-knowing, stepped_all-knowing, HasOneMore, IsApart, ComparesApart, StaysApart, plain_stays}
 use Rattle.stg_derive.proofs.Restoring.{with_old, with_new, with_in_range, steps_named}
 use Rattle.stg_derive.proofs.UnderWay.{step_known}
@@ -96,7 +96,7 @@ module _ (n : NetLists) (known : List ℕ) (signal : ℕ) (net : IsNet n) (range
   compares_apart g d dummy_rule.Loop c = tt
   compares_apart g d (dummy_rule.Same u) c = apart_of n known g signal u net below d c
 
-  stays_apart : (g : Graph) (d : IsDraftOf n known g) (s : Step) → Stays n signal g s → StaysApart g more name (one_more g d) s
+  stays_apart : (g : Graph) (d : IsDraftOf n known g) (s : Step) → MayStay n signal g s → StaysApart g more name (one_more g d) s
   stays_apart g d (DropPlace found) stays = tt
   stays_apart g d (DropDummy found) stays = (apart_of n known g signal found.trans net below d stays.0, compares_apart g d found.rule stays.1)
   stays_apart g d (Contract t secure places) stays = (apart_of n known g signal t net below d stays.0, stays.1)

@@ -26,21 +26,21 @@ abbrev pub ComparesWithAnother : NetLists → ℕ → DummyRule → Type 0
 ComparesWithAnother n signal dummy_rule.Loop = ⊤
 ComparesWithAnother n signal (dummy_rule.Same u) = IsOfAnother n signal u
 
--- the step of the draft g stays where the signal is given back: a deleted place always does; a
--- deleted dummy does where neither it nor the one that is the same is of the signal; a contraction
--- does where its dummy isn't of the signal, and no two transitions of the signal with one label
+-- the step of the draft g may stay where the signal is given back: a deleted place always may; a
+-- deleted dummy may where neither it nor the one that is the same is of the signal; a contraction
+-- may where its dummy isn't of the signal, and no two transitions of the signal with one label
 -- take from one place afterwards
-abbrev pub Stays : NetLists → ℕ → Graph → Step → Type 0
-Stays n signal g (DropPlace found) = ⊤
-Stays n signal g (DropDummy found) =
+abbrev pub MayStay : NetLists → ℕ → Graph → Step → Type 0
+MayStay n signal g (DropPlace found) = ⊤
+MayStay n signal g (DropDummy found) =
     IsOfAnother n signal found.trans × ComparesWithAnother n signal found.rule
-Stays n signal g (Contract t secure places) =
+MayStay n signal g (Contract t secure places) =
     IsOfAnother n signal t × HasNoAutoConflict (with_only n.signals signal (contracted g t))
 
--- so does each of these steps from the draft g on
+-- so may each of these steps from the draft g on: they stay
 abbrev pub AllStay : NetLists → ℕ → Graph → List Step → Type 0
 AllStay n signal g [] = ⊤
-AllStay n signal g (s ∷ steps) = Stays n signal g s × AllStay n signal (stepped g s) steps
+AllStay n signal g (s ∷ steps) = MayStay n signal g s × AllStay n signal (stepped g s) steps
 
 -- so many of the first steps stay, and no more
 pub record IsKeptNumber (n : NetLists) (signal : ℕ) (g : Graph) (steps : List Step) (kept : ℕ)
@@ -49,8 +49,8 @@ pub record IsKeptNumber (n : NetLists) (signal : ℕ) (g : Graph) (steps : List 
   pub stay : AllStay n signal g (take kept steps)
   pub most : (more : ℕ) → more ≤ length steps → AllStay n signal g (take more steps) → more ≤ kept
 
--- the attempt that knows these signals has so many steps that don't stay where the signal of the
--- record is given back
+-- the attempt that knows these signals has so many steps from the first one on that doesn't stay
+-- where the signal of the record is given back
 pub record IsUndoneBy (n : NetLists) (known : List ℕ) (r : Restore) (undone : ℕ) : Type 0 where
   pub steps : List Step
   pub attempt : IsAttempt (initial n known) steps
@@ -58,7 +58,8 @@ pub record IsUndoneBy (n : NetLists) (known : List ℕ) (r : Restore) (undone : 
   pub kept_number : IsKeptNumber n r.signal (initial n known) steps kept
   pub number : undone ≡ length steps - kept
 
--- for all these records, each of the attempt that knows the signals before it, it is so many
+-- it is the sum of the undone steps over these records, each of the attempt that knows the signals
+-- before it
 abbrev pub AreUndone : NetLists → List ℕ → List Restore → ℕ → Type 0
 AreUndone n known [] undone = undone ≡ 0
 AreUndone n known (r ∷ restored) undone = (first : ℕ) × (rest : ℕ) × IsUndoneBy n known r first

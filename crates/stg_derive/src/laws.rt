@@ -4,7 +4,7 @@ ghost use Rattle.stg_derive.specs.Laws.{StepIsOne, RestHasNoStep, AttemptIsOne, 
 
 /// A draft has at most one plain step, and none where it rests. At most one attempt begins with a
 /// draft, and a net with some known signals has at most one derivation. So a group has at most one
-/// part, and that has one wear.
+/// part, and that at most one wear.
 pub fn law_one_derivation()
     ensures step { StepIsOne }
     ensures rest { RestHasNoStep }

@@ -60,8 +60,8 @@ fn note_rule(net: &Net, rule: DummyRule, i: u32, noted: &mut [Option<u32>])
     }
 }
 
-/// Notes the step of that number, which led to this draft, for each signal for which it doesn't
-/// stay. The places that it made have at least the number `first`.
+/// Notes the step of that number, which led to this draft, for each signal that has nothing noted
+/// yet and for which it may not stay. The places that it made have at least the number `first`.
 pub fn note_step(
     net: &Net,
     editor: &Editor,

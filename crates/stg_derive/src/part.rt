@@ -32,6 +32,8 @@ pub struct Part {
     pub restored: Seq<Restore>,
     /// The steps of the last attempt.
     pub steps: Seq<Step>,
-    /// How an editor of the derivation was used. Which one isn't promised.
+    /// As edits the number of the steps, and as undone the number of the steps of the earlier
+    /// attempts that didn't stay, which stands still at the last number of 64 bits. Which editor of
+    /// the derivation it is of isn't promised.
     pub wear: Wear,
 }

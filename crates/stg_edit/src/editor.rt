@@ -350,8 +350,8 @@ impl Editor {
         self.undone = self.undone.saturating_add(1);
     }
 
-    /// Makes a signal known in the draft and in the drafts before each edit. Takes time for the
-    /// signals of the net.
+    /// Makes a signal of the net known in the draft and in the drafts before each edit; the known
+    /// ones then stand in the net's order. Takes time for the signals of the net.
     pub fn show(&mut self, signal: u32)
         requires { signal < length self.old.signals }
         ensures now { self.new.now ≡ with_shown self.old.signals signal self.old.now }

@@ -26,14 +26,14 @@ impl Wear {
         Wear { edits, undone }
     }
 
-    /// The edits that weren't undone.
+    /// How many edits weren't undone.
     pub fn edits(&self) -> u64
         ensures { result ≡ self.now.edits }
     {
         self.edits
     }
 
-    /// The edits that were undone.
+    /// How many edits were undone; the number stands still at the last one of 64 bits.
     pub fn undone(&self) -> u64
         ensures { result ≡ self.now.undone }
     {

@@ -11,7 +11,7 @@ use Rattle.stg_derive.specs.Loggable.{IsLoggable}
 use Rattle.stg_crew.specs.Seats.{view_of}
 use Rattle.stg_crew.specs.inner.Crew.{AreTakenIn}
 use Rattle.stg_crew.proofs.Gathering.{draws_are, all_full, taken_right}
-use Rattle.stg_crew.proofs.Placing.{AreRight, all_out, derived_out, placed-length}
+use Rattle.stg_crew.proofs.Placing.{AreRight, all_out, derived_out, worn_out, placed-length}
 use Rattle.stg_crew.proofs.crew.work.Goals as goal
 
 pub take_parts-requires : goal.take_parts-requires
@@ -28,12 +28,17 @@ taken g c = subst (λ (s : List (Option Part)). AreTakenIn c.send_all.new.worker
 right : (g : _) (c : goal.In_ok-parts g) → AreRight c.args.spec.now.net c.args.groups.now c.join_all.new.slots.items
 right g c = taken_right c.send_all.new.workers.items c.join_all.new.slots.items (length c.send_all.new.workers.items) (view_of c.join_all.new.seat) c.args.spec.now.net c.args.groups.now (taken g c) c.send_all.ensures.parts
 
-pub returns-clause-parts : goal.returns-clause-parts
-returns-clause-parts g c =
+-- there are as many slots as groups
+as_many : (g : _) (c : goal.In_ok-parts g) → length c.join_all.new.slots.items ≡ length c.args.groups.now
+as_many g c =
     let t = taken g c in
-    let long : length c.join_all.new.slots.items ≡ length c.args.groups.now =
-    ap (λ (s : List (Option Part)). length s) t.slots_are ∙ placed-length (replicate (length c.args.groups.now) None) t.all ∙ length-replicate (length c.args.groups.now) None in
-    derived_out c.args.spec.now.net c.args.groups.now c.join_all.new.slots.items c.in_ok-parts.parts c.in_ok-parts.ensures (right g c) long
+    ap (λ (s : List (Option Part)). length s) t.slots_are ∙ placed-length (replicate (length c.args.groups.now) None) t.all ∙ length-replicate (length c.args.groups.now) None
+
+pub returns-clause-parts : goal.returns-clause-parts
+returns-clause-parts g c = derived_out c.args.spec.now.net c.args.groups.now c.join_all.new.slots.items c.in_ok-parts.parts c.in_ok-parts.ensures (right g c) (as_many g c)
+
+pub returns-clause-worn : goal.returns-clause-worn
+returns-clause-worn g c = worn_out c.args.spec.now.net c.args.groups.now c.join_all.new.slots.items c.in_ok-parts.parts c.in_ok-parts.ensures (right g c) (as_many g c)
 
 pub returns-clause-nets : goal.returns-clause-nets
 returns-clause-nets g c = all_out c.args.spec.now.net c.args.groups.now c.join_all.new.slots.items c.in_ok-parts.parts c.in_ok-parts.ensures (right g c) (λ (part : Part). IsNet part.net) (λ group part p. p.net)
