@@ -14,4 +14,5 @@ pub mod Besides
 pub mod Reaching
 pub mod StillWatched
 pub mod FlagSteps
+pub mod RedundantEdits
 mod Examples

@@ -1,5 +1,5 @@
 -- What a watch of redundant dummies shows: for each number of a transition, whether it is watched.
-use Rattle.std.specs.Prelude.{◌≡◌, ◌<◌, ◌⊎◌, ℕ, Bool, true, false, List, length, slice_index_or}
+use Rattle.std.specs.Prelude.{◌≡◌, ℕ, Bool, true, false, List, length, slice_index_or}
 use Rattle.stg_net.specs.Graph.{Graph, IsDummy, takes, gives}
 use Rattle.stg_laws.specs.RedundantDummies.{IsRedundantDummy}
 use Rattle.stg_contract.specs.Neighbours.{HasArc}

@@ -1,6 +1,6 @@
 -- How the watch of redundant dummies is kept, and what is added to it.
-use Rattle.std.specs.Prelude.{◌≡◌, ◌<◌, ◌⊎◌, ℕ, Bool, List, Option, Some, None, All, Contains, length}
-use Rattle.stg_net.specs.Graph.{Graph, IsDummy}
+use Rattle.std.specs.Prelude.{◌≡◌, ◌<◌, ℕ, Bool, List, Option, Some, None, All, Contains, length}
+use Rattle.stg_net.specs.Graph.{Graph}
 use Rattle.stg_contract.specs.Neighbours.{HasArc}
 use Rattle.stg_redundant.specs.declared.dummy_watch.Edited.{Edited}
 use Rattle.stg_redundant.specs.declared.dummy_watch.Edited.TheVariants.{Place, Trans}
