@@ -17,6 +17,7 @@ mod std_sink;
 mod tests;
 
 pub use calls::Calls;
+pub use faults::Faults;
 pub use file_source::FileSource;
 pub use folder_shelf::FolderShelf;
 pub use generated::pipeline;

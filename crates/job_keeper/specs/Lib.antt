@@ -1,0 +1,4 @@
+-- What is promised.
+pub mod Projects
+pub mod Keeping
+pub mod Memory
