@@ -10,7 +10,7 @@ use Rattle.job_keeper.specs.declared.project.Project.{Project}
 use Rattle.job_keeper.specs.Projects.{is_project_name, is_called, project_of, with_project, without_project, AreProjects}
 
 -- where no project is called so, each has another name
-other_names : (name : List ℕ) (ps : List Project) → project_of name ps ≡ None
+pub other_names : (name : List ℕ) (ps : List Project) → project_of name ps ≡ None
     → All (λ (p : Project). p.name ≢ name) ps
 other_names name [] none = All-nil (λ (p : Project). p.name ≢ name)
 other_names name (p ∷ ps) none = by (is_called name p) refl none (other_names name ps)

@@ -22,6 +22,7 @@ pub use keeper::{KeepError, Keeper};
 pub use memory_keeper::MemKeeper;
 pub use memory_vault::MemVault;
 pub use project::{Project, is_project_name};
+pub use project_list::are_projects;
 pub use real_vault::RealVault;
 pub use sql_keeper::SqlKeeper;
 pub use vault::Vault;

@@ -1,10 +1,11 @@
 //! Projects in a list, found and changed by name.
 
-ghost use Rattle.std.specs.Prelude.{◌≡◌, None, IfOk, IsTrue, OnOk, OnErr};
+ghost use Rattle.std.specs.Prelude.{◌≡◌, ◌↔◌, ◌&&◌, None, is_none, IfOk, IsTrue, OnOk, OnErr};
 ghost use Rattle.std.specs.Option.{option_copied};
 ghost use Rattle.job_keeper.specs.Projects.{is_project_name, project_of, project_names, with_project, without_project, AreProjects};
+ghost use Rattle.job_keeper.specs.inner.Clear.{are_clear};
 
-use crate::project::Project;
+use crate::project::{Project, is_project_name};
 use std::alloc::Global;
 use stg_net::{NoMemory, Seq, Text};
 
@@ -29,6 +30,33 @@ pub fn copy_of(
         Some(project) => Ok(Some(project.copied(alloc)?)),
         None => Ok(None),
     }
+}
+
+/// Whether projects have different names, each of its form.
+#[tactic(auto, using(crate::proofs::ProjectTests::are_projects_is))]
+pub fn are_projects(projects: &[Project]) -> bool
+    ensures { IsTrue result ↔ AreProjects projects.now }
+{
+    are_clear(projects)
+}
+
+// Each name is of its form, and no later project has it.
+fn are_clear(projects: &[Project]) -> bool
+    ensures { result ≡ are_clear projects.now }
+{
+    for (i, project) in projects.iter().enumerate() {
+        if !is_clear(project, &projects[i + 1..]) {
+            return false;
+        }
+    }
+    true
+}
+
+fn is_clear(project: &Project, later: &[Project]) -> bool
+    ensures { result ≡ is_project_name project.now.name && is_none (project_of project.now.name later.now) }
+{
+    let name = project.name.as_slice();
+    is_project_name(name) && project_of(later, name).is_none()
 }
 
 /// The names in order.
