@@ -7,10 +7,7 @@ use crate::keeper::KeepError;
 use io_shelf::Faults;
 
 /// The answer, counted where it is a failure.
-pub fn counted<T: Drop>(
-    faults: &mut Faults,
-    answer: Result<T, KeepError>,
-) -> Result<T, KeepError>
+pub fn counted<T: Drop>(faults: &mut Faults, answer: Result<T, KeepError>) -> Result<T, KeepError>
     ensures value { result ≡ answer }
     ensures cause { HasKeepCause faults.old.number faults.new.number result }
 {

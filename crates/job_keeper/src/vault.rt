@@ -20,7 +20,7 @@ pub trait Vault {
         // Under the vault's own file the keeper tells the vault's projects, under another one none.
         ensures projects { IfOk result (λ k. (Self.K.seen k).projects
             ≡ option_map (λ (s : Stored). projects_under (option_copied file.entry) s)
-                (seen self.old).stored) }
+            (seen self.old).stored) }
         ensures names { IfOk result (λ k. IfSome (Self.K.seen k).projects AreProjects) }
         ensures faultless { IfOk result (λ k. (Self.K.seen k).faults ≡ 0) }
         ensures sure { (seen self.old).keepers_fail ≡ false

@@ -71,9 +71,11 @@ fn is_own(alloc: Global, object: &Row) -> Result<bool, KeepError> {
 
 fn is_table(alloc: Global, object: &Row) -> Result<bool, KeepError> {
     let text = text_at(alloc, object, 1)?;
-    Ok(TABLES
-        .iter()
-        .any(|table| has_same_words(table.as_bytes(), text.as_slice())))
+    Ok(
+        TABLES
+            .iter()
+            .any(|table| has_same_words(table.as_bytes(), text.as_slice())),
+    )
 }
 
 fn has_version<S: Alter>(conn: &mut Connection<S>) -> Result<bool, KeepError> {
