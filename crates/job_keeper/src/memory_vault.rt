@@ -70,7 +70,8 @@ impl Vault for MemVault {
         }) }
         ensures value { IfOk result (λ k.
             k ≡ fresh_keeper (projects_under (option_copied file.entry) self.old.stored) []) }
-        ensures names { IfOk result (λ k. AreProjects k.projects) }
+        ensures names { AreProjects self.new.stored.projects }
+        ensures keeper_names { IfOk result (λ k. AreProjects k.projects) }
         ensures failed { IsErrOf result KeepError.Failed ↔ FailsNext self.old.calls }
         ensures fault { IsErrOf result KeepError.Failed → self.new ≡ record self.old {
           asked = true;

@@ -21,7 +21,8 @@ pub trait Vault {
         ensures projects { IfOk result (λ k. (Self.K.seen k).projects
             ≡ option_map (λ (s : Stored). projects_under (option_copied file.entry) s)
             (seen self.old).stored) }
-        ensures names { IfOk result (λ k. IfSome (Self.K.seen k).projects AreProjects) }
+        ensures names { IfSome (seen self.new).stored (λ s. AreProjects s.projects) }
+        ensures keeper_names { IfOk result (λ k. IfSome (Self.K.seen k).projects AreProjects) }
         ensures faultless { IfOk result (λ k. (Self.K.seen k).faults ≡ 0) }
         ensures sure { (seen self.old).keepers_fail ≡ false
             → IfOk result (λ k. (Self.K.seen k).can_fail ≡ false) }
