@@ -14,5 +14,6 @@ pub mod Besides
 pub mod Reaching
 pub mod StillWatched
 pub mod FlagSteps
+pub mod FlagAdds
 pub mod RedundantEdits
 mod Examples

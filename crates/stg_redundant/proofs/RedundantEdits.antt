@@ -13,7 +13,7 @@ use Rattle.stg_contract.proofs.SameRound.{AreSameRound}
 use Rattle.stg_contract.proofs.RoundEdits.{cases_arc, no_arc, arc_below, cases_neighbours, round-contracted, place_at-kept, dummy-without_place, dummy-without_trans, dummy-contracted}
 use Rattle.stg_contract.proofs.DummyEdits.{same-without_place, dummy-shown}
 use Rattle.stg_redundant.proofs.RuleTests.{redundant_is_dummy}
-use Rattle.stg_redundant.specs.FlaggedDummies.{IsFlagged, FlagsRedundant, DropsUseful, FlagsMore, AreAlikeBeyond}
+use Rattle.stg_redundant.specs.FlaggedDummies.{IsFlagged, FlagsRedundant, DropsUseful, FlagsMore, AreAlikeBeyond, IsFlaggedWithAlike}
 
 -- where a dummy has the same arcs in two graphs, its loop is one in both
 loop_before : (g h : Graph) (u : ℕ) → AreSameRound g h u → IsDummy g u → IsLoopDummy h u → IsLoopDummy g u
@@ -227,28 +227,25 @@ flags-shown g known more flags has u r = has u (redundant-shown g known more u r
 
 -- what is reached by an edit is added
 reached_flagged : (g : Graph) (IsAtEdit HasArcAtEdit : ℕ → Type 0) (flags : List Bool)
-    → ((u : ℕ) → IsDummy g u → HasArcAtEdit u → IsFlagged flags u)
-    → ((u v : ℕ) → HasArcAtEdit v → AreAlikeBeyond g IsAtEdit u v → IsFlagged flags u) → (u : ℕ)
+    → ((v : ℕ) → HasArcAtEdit v → IsFlaggedWithAlike g IsAtEdit flags v) → (u : ℕ)
     → IsReachedByEdit g IsAtEdit HasArcAtEdit u → IsFlagged flags u
-reached_flagged g IsAtEdit HasArcAtEdit flags added alike_added u (at_edit d arc) = added u d arc
-reached_flagged g IsAtEdit HasArcAtEdit flags added alike_added u (alike v at both) = alike_added u v at both
+reached_flagged g IsAtEdit HasArcAtEdit flags added u (at_edit d arc) = (added u arc d).0
+reached_flagged g IsAtEdit HasArcAtEdit flags added u (alike v at both) = (added v at both.other_dummy).1 u both
 
--- after the deletion of a place, at which all dummies are added, and those that are alike beyond it
+-- after the deletion of a place, at which all dummies are added with those that are alike beyond it
 pub flags-without_place : (g : Graph) (p : ℕ) (flags : List Bool)
-    → ((u : ℕ) → IsDummy g u → HasArc g u p → IsFlagged flags u)
-    → ((u v : ℕ) → HasArc g v p → AreAlikeBeyond g (λ q. q ≡ p) u v → IsFlagged flags u)
-    → FlagsRedundant g flags → FlagsRedundant (without_place g p) flags
-flags-without_place g p flags added alike_added has u r = elim (redundant-without_place g p u r) [
+    → ((v : ℕ) → HasArc g v p → IsFlaggedWithAlike g (λ q. q ≡ p) flags v) → FlagsRedundant g flags
+    → FlagsRedundant (without_place g p) flags
+flags-without_place g p flags added has u r = elim (redundant-without_place g p u r) [
   | inl before ↦ has u before
-  | inr reached ↦ reached_flagged g (λ q. q ≡ p) (λ v. HasArc g v p) flags added alike_added u reached
+  | inr reached ↦ reached_flagged g (λ q. q ≡ p) (λ v. HasArc g v p) flags added u reached
 ]
 
--- after a contraction, round which all dummies are added, and those that are alike beyond it
+-- after a contraction, round which all dummies are added with those that are alike beyond it
 pub flags-contracted : (g : Graph) (t : ℕ) (flags : List Bool)
-    → ((u : ℕ) → IsDummy g u → AreNeighbours g t u → IsFlagged flags u)
-    → ((u v : ℕ) → AreNeighbours g t v → AreAlikeBeyond g (HasArc g t) u v → IsFlagged flags u)
-    → FlagsRedundant g flags → FlagsRedundant (contracted g t) flags
-flags-contracted g t flags added alike_added has u r = elim (redundant-contracted g t u r) [
+    → ((v : ℕ) → AreNeighbours g t v → IsFlaggedWithAlike g (HasArc g t) flags v) → FlagsRedundant g flags
+    → FlagsRedundant (contracted g t) flags
+flags-contracted g t flags added has u r = elim (redundant-contracted g t u r) [
   | inl before ↦ has u before
-  | inr reached ↦ reached_flagged g (HasArc g t) (AreNeighbours g t) flags added alike_added u reached
+  | inr reached ↦ reached_flagged g (HasArc g t) (AreNeighbours g t) flags added u reached
 ]

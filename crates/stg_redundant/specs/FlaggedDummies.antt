@@ -32,3 +32,8 @@ pub record AreAlikeBeyond (g : Graph) (IsAtEdit : ℕ → Type 0) (u v : ℕ) : 
   pub place : ℕ
   pub beyond : ¬ IsAtEdit place
   pub arc : HasArc g v place
+
+-- v is watched, where it is a dummy, and so is each dummy that is like it beyond the edit
+abbrev pub IsFlaggedWithAlike : Graph → (ℕ → Type 0) → List Bool → ℕ → Type 0
+IsFlaggedWithAlike g IsAtEdit flags v = IsDummy g v
+    → IsFlagged flags v × ((u : ℕ) → AreAlikeBeyond g IsAtEdit u v → IsFlagged flags u)

@@ -8,9 +8,9 @@ ghost use Rattle.stg_laws.specs.RedundantDummies.{IsRedundantDummy};
 ghost use Rattle.stg_contract.specs.Neighbours.{HasArc, AreNeighbours};
 ghost use Rattle.stg_contract.specs.inner.Watches.{HasNumber};
 ghost use Rattle.stg_redundant.specs.Rules.{IsDummyFound};
-ghost use Rattle.stg_redundant.specs.FlaggedDummies.{IsFlagged, FlagsRedundant, DropsUseful, FlagsMore, AreAlikeBeyond};
+ghost use Rattle.stg_redundant.specs.FlaggedDummies.{IsFlagged, FlagsRedundant, DropsUseful, FlagsMore, IsFlaggedWithAlike};
 ghost use Rattle.stg_redundant.specs.inner.Searches.{IsDummyRuleOf};
-ghost use Rattle.stg_redundant.specs.inner.Flagging.{AreWaiting, IsAtEdited, IsPlaceBeyond};
+ghost use Rattle.stg_redundant.specs.inner.Flagging.{AreWaiting, IsAtEdited, IsEditLive, IsOneBeyond, IsPlaceBeyond};
 
 use crate::dummies::{is_dummy, rule_of};
 use crate::found::{DummyFound, DummyRule};
@@ -125,6 +125,33 @@ impl RedundantWatch {
         Ok(())
     }
 
+    /// Watches each dummy that takes from a live place or gives to it, and each one that has the
+    /// other arcs of such a dummy. After an error some of them may not be watched.
+    pub fn add_at(&mut self, editor: &Editor, p: u32) -> Result<(), NoMemory>
+        requires place { IsPlace editor.now.now p }
+        requires long { length self.old ≡ length editor.now.now.trans }
+        ensures added { OnOk result ((v : ℕ) → HasArc editor.now.now v p
+            → IsFlaggedWithAlike editor.now.now (λ q. q ≡ p) self.new v) }
+        ensures kept { FlagsMore self.old self.new }
+    {
+        add_beside_at(self, editor, p, Edited::Place(p))
+    }
+
+    /// Watches each dummy that has an arc with a place with which a live transition has one, and
+    /// each one that has the arcs of such a dummy with all other places. After an error some of
+    /// them may not be watched.
+    pub fn add_round(&mut self, editor: &Editor, t: u32) -> Result<(), NoMemory>
+        requires live { IsTrans editor.now.now t }
+        requires long { length self.old ≡ length editor.now.now.trans }
+        ensures added { OnOk result ((v : ℕ) → AreNeighbours editor.now.now t v
+            → IsFlaggedWithAlike editor.now.now (HasArc editor.now.now t) self.new v) }
+        ensures kept { FlagsMore self.old self.new }
+    {
+        add_beside_each(self, editor, editor.takes(t), Edited::Trans(t))?;
+        add_beside_each(self, editor, editor.gives(t), Edited::Trans(t))?;
+        Ok(())
+    }
+
     /// Gives the redundant dummy of greatest number, with its first rule, where each redundant
     /// dummy is watched. It no longer watches greater numbers.
     pub fn next(&mut self, editor: &Editor) -> Option<DummyFound>
@@ -134,4 +161,182 @@ impl RedundantWatch {
     {
         find_greatest(editor, &mut self.flags, &mut self.waiting)
     }
+}
+
+/// Watches a transition, where it is a dummy.
+fn add_dummy(watch: &mut RedundantWatch, editor: &Editor, t: u32) -> Result<(), NoMemory>
+    requires { t < length watch.old }
+    ensures added { OnOk result (IsDummy editor.now.now t → IsFlagged watch.new t) }
+    ensures kept { FlagsMore watch.old watch.new }
+{
+    if is_dummy(editor, t) {
+        return watch.add(t);
+    }
+    Ok(())
+}
+
+/// Watches each dummy of a walk.
+fn add_all(watch: &mut RedundantWatch, editor: &Editor, trans: Walk<'_>) -> Result<(), NoMemory>
+    requires { All (λ x. x.0 < length watch.old) trans }
+    ensures added { OnOk result ((u : ℕ) → HasNumber u trans.entry
+        → IsDummy editor.now.now u → IsFlagged watch.new u) }
+    ensures kept { FlagsMore watch.old watch.new }
+{
+    for (t, _) in trans {
+        add_dummy(watch, editor, t)?;
+    }
+    Ok(())
+}
+
+/// Watches each dummy at a live place.
+fn add_all_at(watch: &mut RedundantWatch, editor: &Editor, p: u32) -> Result<(), NoMemory>
+    requires place { IsPlace editor.now.now p }
+    requires long { length watch.old ≡ length editor.now.now.trans }
+    ensures added { OnOk result ((u : ℕ) → IsDummy editor.now.now u → HasArc editor.now.now u p
+        → IsFlagged watch.new u) }
+    ensures kept { FlagsMore watch.old watch.new }
+{
+    add_all(watch, editor, editor.takers(p))?;
+    add_all(watch, editor, editor.givers(p))?;
+    Ok(())
+}
+
+/// Whether the walk gives the number.
+fn has_number(walk: Walk<'_>, number: u32) -> bool
+    ensures { IsTrue result ↔ HasNumber number walk.entry }
+{
+    for (other, _) in walk {
+        if other == number {
+            return true;
+        }
+    }
+    false
+}
+
+/// Whether a live transition takes from a place or gives to it.
+fn has_arc(editor: &Editor, t: u32, q: u32) -> bool
+    requires { IsTrans editor.now.now t }
+    ensures { IsTrue result ↔ HasArc editor.now.now t q }
+{
+    has_number(editor.takes(t), q) || has_number(editor.gives(t), q)
+}
+
+/// Whether the edit is at a place.
+fn is_at(editor: &Editor, edit: Edited, q: u32) -> bool
+    requires { IsEditLive editor.now.now edit }
+    ensures { IsTrue result ↔ IsAtEdited editor.now.now edit q }
+{
+    match edit {
+        Edited::Place(p) => q == p,
+        Edited::Trans(t) => has_arc(editor, t, q),
+    }
+}
+
+/// The first of some places at which the edit isn't.
+fn first_beyond(editor: &Editor, edit: Edited, places: Walk<'_>) -> Option<u32>
+    requires { IsEditLive editor.now.now edit }
+    ensures { IsOneBeyond editor.now.now edit places.entry result }
+{
+    for (q, _) in places {
+        if !is_at(editor, edit, q) {
+            return Some(q);
+        }
+    }
+    None
+}
+
+/// A place of a live transition at which the edit isn't.
+fn place_beyond(editor: &Editor, edit: Edited, v: u32) -> Option<u32>
+    requires edit { IsEditLive editor.now.now edit }
+    requires live { IsTrans editor.now.now v }
+    ensures { IsPlaceBeyond editor.now.now edit v result }
+{
+    match first_beyond(editor, edit, editor.takes(v)) {
+        Some(q) => return Some(q),
+        None => {}
+    }
+    first_beyond(editor, edit, editor.gives(v))
+}
+
+/// Watches a transition, where it is a dummy, and each dummy at a place of it beyond the edit.
+fn add_beside(
+    watch: &mut RedundantWatch,
+    editor: &Editor,
+    v: u32,
+    edit: Edited,
+) -> Result<(), NoMemory>
+    requires edit { IsEditLive editor.now.now edit }
+    requires below { v < length watch.old }
+    requires long { length watch.old ≡ length editor.now.now.trans }
+    ensures added { OnOk result
+        (IsFlaggedWithAlike editor.now.now (IsAtEdited editor.now.now edit) watch.new v) }
+    ensures kept { FlagsMore watch.old watch.new }
+{
+    if !is_dummy(editor, v) {
+        return Ok(());
+    }
+    watch.add(v)?;
+    match place_beyond(editor, edit, v) {
+        None => return Ok(()),
+        Some(q) => return add_all_at(watch, editor, q),
+    }
+}
+
+/// The same for each transition of a walk.
+fn add_all_beside(
+    watch: &mut RedundantWatch,
+    editor: &Editor,
+    trans: Walk<'_>,
+    edit: Edited,
+) -> Result<(), NoMemory>
+    requires edit { IsEditLive editor.now.now edit }
+    requires below { All (λ x. x.0 < length watch.old) trans }
+    requires long { length watch.old ≡ length editor.now.now.trans }
+    ensures added { OnOk result ((v : ℕ) → HasNumber v trans.entry
+        → IsFlaggedWithAlike editor.now.now (IsAtEdited editor.now.now edit) watch.new v) }
+    ensures kept { FlagsMore watch.old watch.new }
+{
+    for (v, _) in trans {
+        add_beside(watch, editor, v, edit)?;
+    }
+    Ok(())
+}
+
+/// The same for each transition at a live place.
+fn add_beside_at(
+    watch: &mut RedundantWatch,
+    editor: &Editor,
+    p: u32,
+    edit: Edited,
+) -> Result<(), NoMemory>
+    requires edit { IsEditLive editor.now.now edit }
+    requires place { IsPlace editor.now.now p }
+    requires long { length watch.old ≡ length editor.now.now.trans }
+    ensures added { OnOk result ((v : ℕ) → HasArc editor.now.now v p
+        → IsFlaggedWithAlike editor.now.now (IsAtEdited editor.now.now edit) watch.new v) }
+    ensures kept { FlagsMore watch.old watch.new }
+{
+    add_all_beside(watch, editor, editor.takers(p), edit)?;
+    add_all_beside(watch, editor, editor.givers(p), edit)?;
+    Ok(())
+}
+
+/// The same for each place of a walk.
+fn add_beside_each(
+    watch: &mut RedundantWatch,
+    editor: &Editor,
+    places: Walk<'_>,
+    edit: Edited,
+) -> Result<(), NoMemory>
+    requires edit { IsEditLive editor.now.now edit }
+    requires places { All (λ x. IsPlace editor.now.now x.0) places }
+    requires long { length watch.old ≡ length editor.now.now.trans }
+    ensures added { OnOk result ((p v : ℕ) → HasNumber p places.entry → HasArc editor.now.now v p
+        → IsFlaggedWithAlike editor.now.now (IsAtEdited editor.now.now edit) watch.new v) }
+    ensures kept { FlagsMore watch.old watch.new }
+{
+    for (p, _) in places {
+        add_beside_at(watch, editor, p, edit)?;
+    }
+    Ok(())
 }
