@@ -1,9 +1,17 @@
 -- The rules of redundancy computed on small nets.
-use Rattle.std.proofs.Common.{◌≡◌, ℕ, zero, suc, true, false, List, [], ◌∷◌, Option, Some, refl, arith}
+use Rattle.std.proofs.Common.{◌≡◌, ◌≤◌, ◌+◌, ℕ, zero, suc, true, false, List, [], ◌∷◌, slice_index, Option, Some, refl, sym, subst, inl, arith}
+use Rattle.std.proofs.lemmas.List.Elements.{All-nil, All-cons}
 use Rattle.stg_net.specs.declared.trans.Edge.TheVariants.{Rise}
 use Rattle.stg_net.specs.Graph.{Graph, FullName, Place}
 use Rattle.stg_edit.specs.Drafts.{IsWeightlessPastLast}
 use Rattle.stg_laws.specs.RedundantPlaces.{IsSamePlace, IsShortcut}
+use Rattle.stg_edit.specs.Counted.{live_places}
+use Rattle.stg_edit.specs.Walks.{taking_trans, giving_trans}
+use Rattle.stg_laws.proofs.Origins.{gives-past}
+use Rattle.stg_redundant.specs.Levelled.{Levelling, GrowsAcross, IsLevelled}
+use Rattle.stg_redundant.specs.Watching.{IsNearPlace, itself, IsReachedByContraction}
+use Rattle.stg_redundant.specs.inner.DeadLinks.{AreBelow, AreAbove}
+use Rattle.stg_redundant.proofs.LevelBounds.{falls_across}
 use Rattle.stg_redundant.specs.inner.Tests.{is_same_place, is_loop_place}
 use Rattle.stg_redundant.specs.inner.Chains.{HasPath}
 use Rattle.stg_redundant.proofs.RuleTests.{same_place_is}
@@ -74,3 +82,39 @@ idle = record equal { places = place 0 (0 ∷ 0 ∷ []) (0 ∷ 0 ∷ []) ∷ [] 
 
 idle_loops : is_loop_place idle 0 ≡ true
 idle_loops = refl
+
+-- its levels grow by 1 from each transition to the next
+abbrev steps : Levelling
+steps = record { numbers = 0 ∷ 1 ∷ 2 ∷ 3 ∷ []; rise = 1; fall = 0 }
+
+grows_at : (p u t : ℕ) → giving_trans chain p ≡ (u, 1) ∷ [] → taking_trans chain p ≡ (t, 1) ∷ []
+    → slice_index steps.numbers u + 1 ≤ slice_index steps.numbers t → GrowsAcross chain steps p
+grows_at p u t given taken less =
+    falls_across chain steps p (slice_index steps.numbers u + 1) (slice_index steps.numbers t) narrow_chain
+    (subst (AreBelow steps.numbers 1 (slice_index steps.numbers u + 1)) (sym given) (All-cons (λ x. slice_index steps.numbers x.0 + 1 ≤ slice_index steps.numbers u + 1) (u, 1) [] (omega arith) (All-nil (λ x. slice_index steps.numbers x.0 + 1 ≤ slice_index steps.numbers u + 1))))
+    (subst (AreAbove steps.numbers (slice_index steps.numbers t)) (sym taken) (All-cons (λ x. slice_index steps.numbers t ≤ slice_index steps.numbers x.0) (t, 1) [] (omega arith) (All-nil (λ x. slice_index steps.numbers t ≤ slice_index steps.numbers x.0))))
+    (omega (arith, less))
+
+levels_of_chain : IsLevelled chain steps
+levels_of_chain = record {
+  long = refl;
+  grows = each;
+}
+  where
+    each : (p : ℕ) → GrowsAcross chain steps p
+    each zero = grows_at 0 0 1 refl refl (omega arith)
+    each (suc zero) = grows_at 1 0 3 refl refl (omega arith)
+    each (suc (suc zero)) = grows_at 2 1 2 refl refl (omega arith)
+    each (suc (suc (suc zero))) = grows_at 3 2 3 refl refl (omega arith)
+    each (suc (suc (suc (suc p)))) = λ u t given taken. absurd (omega (arith, given, gives-past chain u (suc (suc (suc (suc p)))) (omega arith)))
+
+-- the first place is near the second transition; once that is contracted, the new place is in reach
+near_second : IsNearPlace chain 1 0
+near_second = inl (omega arith)
+
+new_reached : IsReachedByContraction chain 1 4
+new_reached = itself refl (omega arith)
+
+-- each place is watched from the start
+all_watched : live_places chain ≡ 0 ∷ 1 ∷ 2 ∷ 3 ∷ []
+all_watched = refl

@@ -125,12 +125,7 @@ impl PlaceWatch {
     }
 
     /// Watches those of the places that have the arcs of p.
-    fn add_same(
-        &mut self,
-        editor: &Editor,
-        p: u32,
-        places: Walk<'_>,
-    ) -> Result<(), NoMemory>
+    fn add_same(&mut self, editor: &Editor, p: u32, places: Walk<'_>) -> Result<(), NoMemory>
         requires { IsPlace editor.now.now p }
         ensures ok { OnOk result (HasBesides
             (λ q. IsAmong q places.entry × (tests.has_arcs_of editor.now.now p q ≡ true))

@@ -1,7 +1,10 @@
 //! What is found in worked nets.
 
 use crate::worked::contract_each;
-use crate::{DummyFound, DummyRule, PlaceFound, PlaceRule, redundant_dummy, redundant_place, rows};
+use crate::{
+    DummyFound, DummyRule, PlaceFound, PlaceRule, PlaceWatch, has_other_near, is_link, near_places,
+    redundant_dummy, redundant_place, rows,
+};
 use std::test::Fail;
 
 #[test]
@@ -55,5 +58,26 @@ fn finds_a_place_that_contractions_made(rt: HostRuntime) -> Result<(), Fail> {
         rule: PlaceRule::Shortcut,
     };
     assert_eq!(rt; redundant_place(rt.alloc(), &editor)?, Some(want));
+    Ok(())
+}
+
+#[test]
+fn watches_what_is_in_reach(rt: HostRuntime) -> Result<(), Fail> {
+    let rows = [
+        (rows::chain(rt.alloc())?, 3, false),
+        (rows::c_element(rt.alloc())?, 2, false),
+        (rows::both_empty(rt.alloc())?, 2, false),
+    ];
+    for (editor, near, other) in &rows {
+        let mut watch = PlaceWatch::of(rt.alloc(), editor)?;
+        if editor.is_trans(0) {
+            let places = near_places(rt.alloc(), editor, 0)?;
+            assert_eq!(rt; places.len(), *near);
+            assert_eq!(rt; has_other_near(editor, 0), *other);
+            watch.add_after_deletion(editor, &places)?;
+        }
+        watch.add_after_contraction(editor, 0, true)?;
+        assert!(rt; is_link(editor, 0));
+    }
     Ok(())
 }

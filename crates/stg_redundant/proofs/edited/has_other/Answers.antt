@@ -7,12 +7,14 @@ use Rattle.stg_redundant.proofs.edited.has_other.Goals as goal
 pub returns-then-not-is_link : goal.returns-then-not-is_link
 returns-then-not-is_link c =
     let p = c.in-Some.p in
-    let x : ℕ × ℕ = (p, c.in-Some.field-0-1) in
-    (λ told. record {
-      place = p;
-      one = c.loop-p.invariant.left p ((among_split x c.loop-p.p-iterator c.next.new.self c.in-Some.ensures.steps p).1 (inl refl));
-      no_link = λ l. false≢true (sym c.if-not-is_link.true ∙ c.is_link.ensures.1 l);
-    }, λ h. refl)
+    let x : ℕ × ℕ = (p, c.in-Some.field-0-1) in (
+      λ told. record {
+        place = p;
+        one = c.loop-p.invariant.left p ((among_split x c.loop-p.p-iterator c.next.new.self c.in-Some.ensures.steps p).1 (inl refl));
+        no_link = λ l. false≢true (sym c.if-not-is_link.true ∙ c.is_link.ensures.1 l);
+      },
+      λ h. refl,
+    )
 
 pub loop-p-preserved : goal.loop-p-preserved
 loop-p-preserved c =

@@ -17,8 +17,10 @@ returns c p =
     let taken = subst (λ (xs : List (ℕ × ℕ)). HasBesides (λ q. IsAmong q xs) c.new-near.result.items mid) c.takes.ensures.value c.in_ok-push_all.ensures in
     let first = subst (λ (xs : List ℕ). HasBesides IsTaken xs mid) c.new-near.ensures.items taken in
     let later = subst (λ (xs : List (ℕ × ℕ)). HasBesides (λ q. IsAmong q xs) mid now) c.gives.ensures.value c.in_ok-push_all-2.ensures in
-    let both = besides_both IsTaken IsGiven [] mid now first later p in
-    (λ h. elim (both.0 h) [
-      | inl none ↦ absurd (omega (arith, none.1))
-      | inr near ↦ (near_is g t p).0 near
-    ], λ near. both.1 (inr ((near_is g t p).1 near)))
+    let both = besides_both IsTaken IsGiven [] mid now first later p in (
+      λ h. elim (both.0 h) [
+        | inl none ↦ absurd (omega (arith, none.1))
+        | inr near ↦ (near_is g t p).0 near
+      ],
+      λ near. both.1 (inr ((near_is g t p).1 near)),
+    )
