@@ -24,14 +24,16 @@ WatchesHopeful g watch = (t : ℕ) → IsDummy g t → MayContract g t → IsWat
 
 -- the contraction of each watched dummy makes at least as many places as are kept for it
 abbrev pub AreLeastPlaces : Graph → List (Option ℕ) → Type 0
-AreLeastPlaces g watch = (t n : ℕ) → least_places watch t ≡ Some n → IsDummy g t → n ≤ new_places g t
+AreLeastPlaces g watch =
+    (t n : ℕ) → least_places watch t ≡ Some n → IsDummy g t → n ≤ new_places g t
 
 -- the new watch has no other dummies than the old one, and lacks none of its live ones that only
 -- numbers may keep from a contraction
 pub record DropsHopeless (g : Graph) (old new : List (Option ℕ)) : Type 0 where
   pub as_long : length new ≡ length old
   pub only : (t : ℕ) → IsWatchedDummy new t → IsWatchedDummy old t
-  pub hopeful : (t : ℕ) → IsWatchedDummy old t → IsDummy g t → MayContract g t → IsWatchedDummy new t
+  pub hopeful : (t : ℕ) → IsWatchedDummy old t → IsDummy g t → MayContract g t
+      → IsWatchedDummy new t
 
 -- for each transition the new watch keeps what the old one keeps, or that its contraction makes 0
 -- places at least

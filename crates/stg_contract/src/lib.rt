@@ -2,12 +2,14 @@
 #![tactic(auto)]
 
 mod arcs;
+mod cheapest;
 mod clash;
 mod contraction;
 mod judge;
 mod large;
 mod laws;
 mod left;
+mod outlook;
 mod pure;
 mod queue;
 mod reach;

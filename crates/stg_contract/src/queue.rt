@@ -73,7 +73,8 @@ impl Queue {
 
     /// Takes out the first entry that waits.
     pub fn pop(&mut self) -> Option<(u64, u32)>
-        ensures waiting { IfSome result (λ x. IsPermutation self.old.waiting (x ∷ self.new.waiting)) }
+        ensures waiting { IfSome result
+            (λ x. IsPermutation self.old.waiting (x ∷ self.new.waiting)) }
         ensures first { IfSome result (λ x. All (ComesFirst x) self.new.waiting) }
         ensures room { IfSome result (λ x. self.old.room < self.new.room) }
         ensures aside { self.new.aside ≡ self.old.aside }

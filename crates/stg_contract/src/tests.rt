@@ -1,6 +1,9 @@
 //! The verdicts on worked nets, and a contraction.
 
-use crate::worked::{contract_each, contract_told, drop_live, has_dummy, undo_all, verdict_on};
+use crate::worked::{
+    cheapest_told, contract_cheapest, contract_each, contract_told, drop_live, has_dummy, undo_all,
+    verdict_on,
+};
 use crate::{Verdict, rows};
 use std::test::Fail;
 use stg_net::Seq;
@@ -67,5 +70,15 @@ fn derives_a_part_of_a_bus_controller_and_takes_it_back(rt: HostRuntime) -> Resu
     for t in 0..10 {
         assert!(rt; editor.is_trans(t), "transition {t}");
     }
+    Ok(())
+}
+
+#[test]
+fn finds_the_cheapest_dummies_of_a_bus_controller(rt: HostRuntime) -> Result<(), Fail> {
+    let mut editor = rows::bus(rt.alloc())?;
+    assert!(rt; contract_cheapest(rt.alloc(), &mut editor, &[0, 2, 5, 8, 9])?);
+    assert!(rt; drop_live(&mut editor, 15)?);
+    assert!(rt; contract_cheapest(rt.alloc(), &mut editor, &[1])?);
+    assert_eq!(rt; cheapest_told(rt.alloc(), &editor)?, None);
     Ok(())
 }

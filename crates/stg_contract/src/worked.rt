@@ -4,7 +4,7 @@ ghost use Rattle.std.specs.Prelude.{◌≡◌, ◌<◌, ◌≤◌, ◌+◌, ℕ,
 ghost use Rattle.stg_net.specs.Graph.{IsDummy};
 ghost use Rattle.stg_contract.specs.inner.Worked as worked;
 
-use crate::{Verdict, contract, cost, test};
+use crate::{DummyWatch, Verdict, contract, cost, test};
 use std::alloc::Global;
 use stg_edit::Editor;
 use stg_net::{Edge, Kind, Net, NetArc, NoMemory, Seq, Signal, TransName};
@@ -148,6 +148,30 @@ pub fn contract_each(editor: &mut Editor, trans: &[u32]) -> Result<bool, NoMemor
         → worked.MadeEdits editor.old editor.new (length trans.now)) }
 {
     for t in trans {
+        if !contract_told(editor, *t)? {
+            return Ok(false);
+        }
+    }
+    Ok(true)
+}
+
+/// The cheapest candidate, as a new watch finds it.
+pub fn cheapest_told(alloc: Global, editor: &Editor) -> Result<Option<u32>, NoMemory> {
+    let mut watch = DummyWatch::of(alloc, editor)?;
+    Ok(watch.cheapest(editor))
+}
+
+/// Contracts the cheapest candidate as often as there are transitions, and tells whether they were
+/// these in order.
+pub fn contract_cheapest(
+    alloc: Global,
+    editor: &mut Editor,
+    trans: &[u32],
+) -> Result<bool, NoMemory> {
+    for t in trans {
+        if cheapest_told(alloc, editor)? != Some(*t) {
+            return Ok(false);
+        }
         if !contract_told(editor, *t)? {
             return Ok(false);
         }

@@ -2,8 +2,8 @@
 use Rattle.std.specs.Prelude.{◌≡◌, ◌==◌, ◌<◌, ◌⊎◌, ℕ, List, [], ◌∷◌, Option, Some, None, All, Contains, length, sum_by, if◌then◌else◌}
 use Rattle.stg_net.specs.Graph.{Graph}
 use Rattle.stg_edit.specs.Replacing.{new_places}
-use Rattle.stg_contract.specs.declared.watch.Outlook.{Outlook}
-use Rattle.stg_contract.specs.declared.watch.Outlook.TheVariants.{Ready, Open, Hopeless}
+use Rattle.stg_contract.specs.declared.outlook.Outlook.{Outlook}
+use Rattle.stg_contract.specs.declared.outlook.Outlook.TheVariants.{Ready, Open, Hopeless}
 use Rattle.stg_contract.specs.Verdicts.{IsContractible}
 use Rattle.stg_contract.specs.Neighbours.{MayContract}
 use Rattle.stg_contract.specs.Candidates.{IsCandidate}

@@ -1,6 +1,6 @@
 use Rattle.std.proofs.Common.{subst}
 use Rattle.stg_contract.specs.Verdicts.{IsVerdict}
-use Rattle.stg_contract.proofs.watch.outlook_of.Goals as goal
+use Rattle.stg_contract.proofs.outlook.outlook_of.Goals as goal
 
 pub returns-in-Clash : goal.returns-in-Clash
 returns-in-Clash c m =

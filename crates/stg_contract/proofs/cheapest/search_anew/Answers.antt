@@ -1,6 +1,6 @@
 use Rattle.std.proofs.lemmas.Option.{IfSome_then}
 use Rattle.stg_contract.proofs.WatchSteps.{forgotten_queue, forgotten_least, forgotten_watches, forgotten_drops}
-use Rattle.stg_contract.proofs.watch.search_anew.Goals as goal
+use Rattle.stg_contract.proofs.cheapest.search_anew.Goals as goal
 
 pub search-requires-clause-queued : goal.search-requires-clause-queued
 search-requires-clause-queued c =

@@ -2,7 +2,7 @@ use Rattle.std.proofs.Common.{◌∷◌, sym, subst, arith}
 use Rattle.std.proofs.lemmas.List.Sorted.{sum_by_popped}
 use Rattle.stg_contract.specs.inner.Watches.{IsUnderWay, toil_of}
 use Rattle.stg_contract.proofs.WatchSteps.{reordered, there, is_cheapest, way_ends}
-use Rattle.stg_contract.proofs.watch.search.Goals as goal
+use Rattle.stg_contract.proofs.cheapest.search.Goals as goal
 
 pub advance-requires-clause-below : goal.advance-requires-clause-below
 advance-requires-clause-below c =

@@ -1,7 +1,7 @@
 use Rattle.std.proofs.Common.{◌≡◌, ◌<◌, ◌≤◌, ℕ, length}
 use Rattle.stg_contract.specs.WatchedDummies.{least_places}
 use Rattle.stg_contract.specs.inner.Watches.{unweighed}
-use Rattle.stg_contract.proofs.watch.forget_places.Given as goal
+use Rattle.stg_contract.proofs.cheapest.forget_places.Given as goal
 
 abbrev pub invariant-loop-t : goal.invariant-loop-t
 invariant-loop-t l = record {

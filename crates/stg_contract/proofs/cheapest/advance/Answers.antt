@@ -4,7 +4,7 @@ use Rattle.std.proofs.lemmas.List.Sorted.{sum_by_pushed}
 use Rattle.stg_edit.specs.Replacing.{new_places}
 use Rattle.stg_contract.specs.inner.Watches.{IsOutlook, IsUnderWay, toil_of}
 use Rattle.stg_contract.proofs.WatchSteps.{passed, dropped, weighed, reordered, put_aside, toil_weighed}
-use Rattle.stg_contract.proofs.watch.advance.Goals as goal
+use Rattle.stg_contract.proofs.cheapest.advance.Goals as goal
 
 pub returns-then-not-is_kept-clause-way : goal.returns-then-not-is_kept-clause-way
 returns-then-not-is_kept-clause-way c old way =

@@ -4,7 +4,7 @@ use Rattle.std.proofs.lemmas.List.Sorted.{IsPermutation-trans, length_permutatio
 use Rattle.stg_contract.specs.inner.Queues.{Queued}
 use Rattle.stg_contract.specs.inner.Watches.{unweighed_entry}
 use Rattle.stg_contract.proofs.WatchSteps.{forgotten}
-use Rattle.stg_contract.proofs.watch.forget_entries.Goals as goal
+use Rattle.stg_contract.proofs.cheapest.forget_entries.Goals as goal
 
 pub returns-in-None-clause-waiting : goal.returns-in-None-clause-waiting
 returns-in-None-clause-waiting c =
