@@ -10,8 +10,9 @@ ghost use Rattle.stg_contract.specs.inner.Watches.{HasNumber};
 ghost use Rattle.stg_redundant.specs.Rules.{IsDummyFound};
 ghost use Rattle.stg_redundant.specs.FlaggedDummies.{IsFlagged, FlagsRedundant, DropsUseful, FlagsMore, IsFlaggedWithAlike};
 ghost use Rattle.stg_redundant.specs.inner.Searches.{IsDummyRuleOf};
-ghost use Rattle.stg_redundant.specs.inner.Flagging.{AreWaiting, IsAtEdited, IsEditLive, IsOneBeyond, IsPlaceBeyond};
+ghost use Rattle.stg_redundant.specs.inner.Flagging.{AreWaiting, IsAtEdited, IsEditLive};
 
+use crate::beyond::{Edited, place_beyond};
 use crate::dummies::{is_dummy, rule_of};
 use crate::found::{DummyFound, DummyRule};
 use std::alloc::Global;
@@ -19,15 +20,6 @@ use std::collections::BinaryHeap;
 use std::marker::Model;
 use stg_edit::{Editor, Walk};
 use stg_net::NoMemory;
-
-/// What an edit takes away.
-#[derive(Clone, Copy, Debug)]
-pub enum Edited {
-    /// This place.
-    Place(u32),
-    /// This transition, with its arcs.
-    Trans(u32),
-}
 
 /// The first rule for a number, where it is that of a redundant dummy.
 fn rule_at(editor: &Editor, t: u32) -> Option<DummyRule>
@@ -199,63 +191,6 @@ fn add_all_at(watch: &mut RedundantWatch, editor: &Editor, p: u32) -> Result<(),
     add_all(watch, editor, editor.takers(p))?;
     add_all(watch, editor, editor.givers(p))?;
     Ok(())
-}
-
-/// Whether the walk gives the number.
-fn has_number(walk: Walk<'_>, number: u32) -> bool
-    ensures { IsTrue result ↔ HasNumber number walk.entry }
-{
-    for (other, _) in walk {
-        if other == number {
-            return true;
-        }
-    }
-    false
-}
-
-/// Whether a live transition takes from a place or gives to it.
-fn has_arc(editor: &Editor, t: u32, q: u32) -> bool
-    requires { IsTrans editor.now.now t }
-    ensures { IsTrue result ↔ HasArc editor.now.now t q }
-{
-    has_number(editor.takes(t), q) || has_number(editor.gives(t), q)
-}
-
-/// Whether the edit is at a place.
-fn is_at(editor: &Editor, edit: Edited, q: u32) -> bool
-    requires { IsEditLive editor.now.now edit }
-    ensures { IsTrue result ↔ IsAtEdited editor.now.now edit q }
-{
-    match edit {
-        Edited::Place(p) => q == p,
-        Edited::Trans(t) => has_arc(editor, t, q),
-    }
-}
-
-/// The first of some places at which the edit isn't.
-fn first_beyond(editor: &Editor, edit: Edited, places: Walk<'_>) -> Option<u32>
-    requires { IsEditLive editor.now.now edit }
-    ensures { IsOneBeyond editor.now.now edit places.entry result }
-{
-    for (q, _) in places {
-        if !is_at(editor, edit, q) {
-            return Some(q);
-        }
-    }
-    None
-}
-
-/// A place of a live transition at which the edit isn't.
-fn place_beyond(editor: &Editor, edit: Edited, v: u32) -> Option<u32>
-    requires edit { IsEditLive editor.now.now edit }
-    requires live { IsTrans editor.now.now v }
-    ensures { IsPlaceBeyond editor.now.now edit v result }
-{
-    match first_beyond(editor, edit, editor.takes(v)) {
-        Some(q) => return Some(q),
-        None => {}
-    }
-    first_beyond(editor, edit, editor.gives(v))
 }
 
 /// Watches a transition, where it is a dummy, and each dummy at a place of it beyond the edit.

@@ -1,6 +1,6 @@
 //! What is found in worked nets.
 
-use crate::worked::contract_each;
+use crate::worked::{contract_each, next_told};
 use crate::{
     DummyFound, DummyRule, PlaceFound, PlaceRule, PlaceWatch, has_other_near, is_link, near_places,
     redundant_dummy, redundant_place, rows,
@@ -37,6 +37,7 @@ fn finds_the_greatest_redundant_dummy(rt: HostRuntime) -> Result<(), Fail> {
             rule: *rule,
         };
         assert_eq!(rt; redundant_dummy(editor), Some(want));
+        assert_eq!(rt; next_told(rt.alloc(), editor)?, Some(want));
     }
     Ok(())
 }
@@ -46,6 +47,7 @@ fn finds_nothing_in_a_c_element(rt: HostRuntime) -> Result<(), Fail> {
     let editor = rows::c_element(rt.alloc())?;
     assert_eq!(rt; redundant_place(rt.alloc(), &editor)?, None);
     assert_eq!(rt; redundant_dummy(&editor), None);
+    assert_eq!(rt; next_told(rt.alloc(), &editor)?, None);
     Ok(())
 }
 

@@ -3,6 +3,7 @@
 ghost use Rattle.std.specs.Prelude.{◌≡◌, ◌<◌, ◌≤◌, ◌+◌, ℕ, true, false, map, length, All, IfOk, IsTrue};
 ghost use Rattle.stg_contract.specs.inner.Worked as worked;
 
+use crate::{DummyFound, RedundantWatch};
 use std::alloc::Global;
 use stg_contract::{Verdict, contract, cost, test};
 use stg_edit::Editor;
@@ -123,4 +124,10 @@ pub fn contract_each(editor: &mut Editor, trans: &[u32]) -> Result<bool, NoMemor
         }
     }
     Ok(true)
+}
+
+/// The redundant dummy of greatest number, as a new watch finds it.
+pub fn next_told(alloc: Global, editor: &Editor) -> Result<Option<DummyFound>, NoMemory> {
+    let mut watch = RedundantWatch::of(alloc, editor)?;
+    Ok(watch.next(editor))
 }

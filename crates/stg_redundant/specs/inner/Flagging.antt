@@ -3,8 +3,8 @@ use Rattle.std.specs.Prelude.{◌≡◌, ◌<◌, ℕ, Bool, List, Option, Some,
 use Rattle.std.specs.Bool.{⊤}
 use Rattle.stg_net.specs.Graph.{Graph, IsTrans}
 use Rattle.stg_contract.specs.Neighbours.{HasArc}
-use Rattle.stg_redundant.specs.declared.dummy_watch.Edited.{Edited}
-use Rattle.stg_redundant.specs.declared.dummy_watch.Edited.TheVariants.{Place, Trans}
+use Rattle.stg_redundant.specs.declared.beyond.Edited.{Edited}
+use Rattle.stg_redundant.specs.declared.beyond.Edited.TheVariants.{Place, Trans}
 use Rattle.stg_contract.specs.inner.Watches.{HasNumber}
 use Rattle.stg_redundant.specs.FlaggedDummies.{IsFlagged}
 

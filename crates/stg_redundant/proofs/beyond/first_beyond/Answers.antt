@@ -2,7 +2,7 @@ use Rattle.std.proofs.Common.{ℕ, sym, ◌∙◌}
 use Rattle.std.proofs.lemmas.Bool.{false≢true}
 use Rattle.stg_redundant.specs.inner.Flagging.{IsAtEdited}
 use Rattle.stg_redundant.proofs.FlagAdds.{one_done, number_later, number_first}
-use Rattle.stg_redundant.proofs.dummy_watch.first_beyond.Goals as goal
+use Rattle.stg_redundant.proofs.beyond.first_beyond.Goals as goal
 
 pub returns-then-not-is_at : goal.returns-then-not-is_at
 returns-then-not-is_at c =

@@ -3,10 +3,10 @@ use Rattle.stg_edit.specs.Walks.{taken_places, given_places}
 use Rattle.stg_net.specs.Graph.{Graph}
 use Rattle.stg_contract.specs.inner.Watches.{HasNumber}
 use Rattle.stg_contract.proofs.WatchAdds.{walked_places}
-use Rattle.stg_redundant.specs.declared.dummy_watch.Edited.{Edited}
+use Rattle.stg_redundant.specs.declared.beyond.Edited.{Edited}
 use Rattle.stg_redundant.specs.inner.Flagging.{IsOneBeyond, IsPlaceBeyond}
 use Rattle.stg_redundant.proofs.FlagAdds.{walked_arc}
-use Rattle.stg_redundant.proofs.dummy_watch.place_beyond.Goals as goal
+use Rattle.stg_redundant.proofs.beyond.place_beyond.Goals as goal
 
 pub returns-in-Some : goal.returns-in-Some
 returns-in-Some c =

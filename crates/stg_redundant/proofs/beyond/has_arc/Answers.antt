@@ -3,7 +3,7 @@ use Rattle.std.proofs.lemmas.Bool.{false≢true}
 use Rattle.stg_contract.specs.inner.Watches.{HasNumber}
 use Rattle.stg_contract.proofs.WatchAdds.{walked_places}
 use Rattle.stg_redundant.proofs.FlagAdds.{walked_arc}
-use Rattle.stg_redundant.proofs.dummy_watch.has_arc.Goals as goal
+use Rattle.stg_redundant.proofs.beyond.has_arc.Goals as goal
 
 pub returns-then-has_number : goal.returns-then-has_number
 returns-then-has_number c =

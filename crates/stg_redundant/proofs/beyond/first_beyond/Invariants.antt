@@ -1,7 +1,7 @@
 use Rattle.std.proofs.Common.{◌⊎◌, ℕ}
 use Rattle.stg_contract.specs.inner.Watches.{HasNumber}
 use Rattle.stg_redundant.specs.inner.Flagging.{IsAtEdited}
-use Rattle.stg_redundant.proofs.dummy_watch.first_beyond.Given as goal
+use Rattle.stg_redundant.proofs.beyond.first_beyond.Given as goal
 
 abbrev pub invariant-loop-q : goal.invariant-loop-q
 invariant-loop-q l = record {
