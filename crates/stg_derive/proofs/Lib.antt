@@ -8,6 +8,7 @@ pub mod OneMoreKnown
 pub mod Staying
 pub mod Noting
 pub mod Undone
+pub mod StillWatching
 pub mod DraftNumbers
 pub mod DraftSignals
 pub mod OneStep

@@ -1,30 +1,21 @@
 //! The choice of the next step.
 
-ghost use Rattle.std.specs.Prelude.{◌≡◌, ◌<◌, ◌≤◌, ◌+◌, None, length, IfOk, IfSome, IsTrue};
+ghost use Rattle.std.specs.Prelude.{◌≡◌, ◌<◌, ◌≤◌, ◌+◌, None, length, IfOk, IfSome, OnOk, IsTrue};
 ghost use Rattle.stg_net.specs.Graph.{IsDummy};
 ghost use Rattle.stg_laws.specs.Deterministic.{HasNoDummy};
 ghost use Rattle.stg_contract.specs.Calm.{IsCalm};
-ghost use Rattle.stg_derive.specs.Steps.{HasNoRedundantPlace, HasNoRedundantDummy, IsPlainStep, IsAtRest};
+ghost use Rattle.stg_contract.specs.Candidates.{IsCandidate, IsCheapest};
+ghost use Rattle.stg_contract.specs.Verdicts.{IsVerdict};
+ghost use Rattle.stg_derive.specs.Steps.{verdict_of, IsNextContraction, HasNoRedundantPlace, HasNoRedundantDummy, IsPlainStep, IsAtRest};
 ghost use Rattle.stg_derive.specs.Derivations.{IsLeastDummy};
-ghost use Rattle.stg_derive.specs.inner.Choices.{IsBestBelow, IsTypeOf, IsDummyAt, is_fewer};
+ghost use Rattle.stg_derive.specs.inner.Choices.{IsDummyAt};
+ghost use Rattle.stg_derive.specs.inner.Watching.{IsWatching};
 
+use crate::watches::Watches;
 use crate::{Secure, Step};
-use std::alloc::Global;
 use stg_contract::{Verdict, new_places, test_calm};
 use stg_edit::Editor;
 use stg_net::NoMemory;
-use stg_redundant::{redundant_dummy, redundant_place};
-
-/// A dummy that may be contracted.
-#[derive(Clone, Copy, Debug)]
-pub struct Choice {
-    /// The dummy.
-    pub trans: u32,
-    /// By which type its contraction is secure.
-    pub secure: Secure,
-    /// How many places its contraction makes.
-    pub places: u32,
-}
 
 /// Whether there is a live dummy of that number.
 fn is_dummy(editor: &Editor, t: u32) -> bool
@@ -33,98 +24,67 @@ fn is_dummy(editor: &Editor, t: u32) -> bool
     editor.is_trans(t) && editor.is_dummy(t)
 }
 
-/// The type of the contraction that a verdict allows.
-fn type_of(verdict: Verdict) -> Option<Secure>
-    ensures { IsTypeOf verdict result }
-{
-    match verdict {
-        Verdict::Type1 => Some(Secure::Type1),
-        Verdict::Type2 => Some(Secure::Type2),
-        _ => None,
-    }
-}
-
-/// Whether that many places are fewer than the choice makes, or nothing is chosen.
-fn is_fewer_than(places: u32, best: Option<Choice>) -> bool
-    ensures { result ≡ is_fewer places best }
-{
-    match best {
-        Some(choice) => places < choice.places,
-        None => true,
-    }
-}
-
-/// The best choice of the dummies up to t, from the best of those below t. A dummy is tested only
-/// where its contraction makes fewer places.
-fn better(editor: &Editor, best: Option<Choice>, t: u32) -> Option<Choice>
-    requires first { editor.now.now.first_places ≤ 4064 }
+/// The type by which the contraction of a candidate is secure.
+fn secure_of(editor: &Editor, t: u32) -> Secure
+    requires candidate { IsCandidate editor.now.now t }
     requires calm { IsCalm editor.now.now }
-    requires best { IsBestBelow editor.now.now t best }
-    ensures { IsBestBelow editor.now.now (t + 1) result }
+    ensures { IsVerdict editor.now.now t (verdict_of result) }
 {
-    if !is_dummy(editor, t) {
-        return best;
-    }
-    let places = new_places(editor, t);
-    if !is_fewer_than(places, best) {
-        return best;
-    }
-    match type_of(test_calm(editor, t)) {
-        Some(secure) => Some(Choice {
-            trans: t,
-            secure,
-            places,
-        }),
-        None => best,
+    match test_calm(editor, t) {
+        Verdict::Type1 => Secure::Type1,
+        _ => Secure::Type2,
     }
 }
 
-/// The contractible dummy whose contraction makes the fewest places, the least number among equals.
-fn cheapest(editor: &Editor) -> Option<Choice>
-    requires first { editor.now.now.first_places ≤ 4064 }
-    requires calm { IsCalm editor.now.now }
-    ensures { IsBestBelow editor.now.now (length editor.now.now.trans) result }
-{
-    let mut best = None;
-    for t in 0..editor.all_trans() {
-        best = better(editor, best, t);
-    }
-    best
-}
-
-/// The contraction that comes next, where nothing is redundant.
-fn next_contraction(editor: &Editor) -> Option<Step>
+/// The contraction of the cheapest candidate, where nothing is redundant.
+fn contraction_of(editor: &Editor, t: u32) -> Step
+    requires cheapest { IsCheapest editor.now.now t }
     requires first { editor.now.now.first_places ≤ 4064 }
     requires calm { IsCalm editor.now.now }
     requires no_redundant_place { HasNoRedundantPlace editor.now.now }
     requires no_redundant_dummy { HasNoRedundantDummy editor.now.now }
-    ensures some { IfSome result (IsPlainStep editor.now.now) }
-    ensures none { result ≡ None → IsAtRest editor.now.now }
+    ensures { IsPlainStep editor.now.now result }
 {
-    match cheapest(editor) {
-        None => None,
-        Some(choice) => Some(Step::Contract {
-            trans: choice.trans,
-            secure: choice.secure,
-            places: choice.places,
-        }),
+    Step::Contract {
+        trans: t,
+        secure: secure_of(editor, t),
+        places: new_places(editor, t),
     }
 }
 
-/// The plain step of the draft, where there is one.
-pub fn next_step(alloc: Global, editor: &Editor) -> Result<Option<Step>, NoMemory>
+/// The contraction that comes next, where nothing is redundant.
+fn next_contraction(editor: &Editor, watches: &mut Watches) -> Option<Step>
     requires first { editor.now.now.first_places ≤ 4064 }
     requires calm { IsCalm editor.now.now }
+    requires watching { IsWatching editor.now.now watches.old }
+    requires no_redundant_place { HasNoRedundantPlace editor.now.now }
+    requires no_redundant_dummy { HasNoRedundantDummy editor.now.now }
+    ensures some { IfSome result (IsPlainStep editor.now.now) }
+    ensures none { result ≡ None → IsAtRest editor.now.now }
+    ensures watching { IsWatching editor.now.now watches.new }
+{
+    match watches.dummies.cheapest_calm(editor) {
+        None => None,
+        Some(t) => Some(contraction_of(editor, t)),
+    }
+}
+
+/// The plain step of the draft, where there is one. It is sought among what is watched alone.
+pub fn next_step(editor: &Editor, watches: &mut Watches) -> Result<Option<Step>, NoMemory>
+    requires first { editor.now.now.first_places ≤ 4064 }
+    requires calm { IsCalm editor.now.now }
+    requires watching { IsWatching editor.now.now watches.old }
     ensures some { IfOk result (λ step. IfSome step (IsPlainStep editor.now.now)) }
     ensures none { IfOk result (λ step. step ≡ None → IsAtRest editor.now.now) }
+    ensures watching { OnOk result (IsWatching editor.now.now watches.new) }
 {
-    match redundant_place(alloc, editor)? {
+    match watches.places.next_levelled(editor, &watches.levels)? {
         Some(found) => return Ok(Some(Step::DropPlace(found))),
         None => {}
     }
-    match redundant_dummy(editor) {
+    match watches.redundant.next(editor) {
         Some(found) => Ok(Some(Step::DropDummy(found))),
-        None => Ok(next_contraction(editor)),
+        None => Ok(next_contraction(editor, watches)),
     }
 }
 

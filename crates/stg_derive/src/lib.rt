@@ -14,6 +14,7 @@ mod step;
 #[cfg(test)]
 mod tests;
 mod undoing;
+mod watches;
 #[cfg(test)]
 mod worked;
 

@@ -8,9 +8,11 @@ ghost use Rattle.stg_net.specs.Initial.{graph_of};
 ghost use Rattle.stg_laws.specs.Conflict.{HasNoAutoConflict};
 ghost use Rattle.stg_derive.specs.Derivations.{known_with};
 ghost use Rattle.stg_derive.specs.inner.UnderWay.{IsAttemptSoFar, kept_steps};
+ghost use Rattle.stg_derive.specs.inner.Watching.{IsWatching};
 
 use crate::attempt::Attempt;
 use crate::notes::forget_from;
+use crate::watches::watch_all;
 use std::alloc::Global;
 use stg_net::{Net, NoMemory, Nums, Seq, is_one_of};
 
@@ -57,7 +59,7 @@ fn undo_last(attempt: &mut Attempt)
 }
 
 /// Gives a hidden signal back: the steps from the first one that doesn't stay are undone, the last
-/// first, and the signal is known from now on.
+/// first, and the signal is known from now on. Then all is watched.
 pub fn give_back(
     alloc: Global,
     net: &Net,
@@ -71,6 +73,7 @@ pub fn give_back(
     requires there { signal < length net.now.signals }
     requires counted { attempt.old.editor.undone < 2 ^ 64 }
     ensures under_way { OnOk result (IsAttemptSoFar net.now attempt.new) }
+    ensures watching { OnOk result (IsWatching attempt.new.editor.now attempt.new.watches) }
     ensures known { OnOk result
         (attempt.new.known ≡ known_with net.now attempt.old.known signal) }
     ensures undone { OnOk result (attempt.new.editor.undone ≡ min (attempt.old.editor.undone
@@ -83,5 +86,6 @@ pub fn give_back(
     }
     forget_from(&mut attempt.first_undone, kept as u32);
     attempt.editor.show(signal);
+    attempt.watches = watch_all(alloc, &attempt.editor)?;
     Ok(())
 }

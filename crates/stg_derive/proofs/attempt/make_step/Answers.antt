@@ -5,6 +5,7 @@ use Rattle.stg_net.specs.declared.trans.TransName.{TransName}
 use Rattle.stg_net.specs.Graph.{Graph}
 use Rattle.stg_net.specs.Initial.{initial, full_name}
 use Rattle.stg_derive.specs.inner.UnderWay.{IsNotedWhere, IsGone}
+use Rattle.stg_derive.specs.inner.Watching.{IsWatching}
 use Rattle.stg_derive.proofs.FinishedNets.{steps_long}
 use Rattle.stg_derive.proofs.LoggableParts.{step_there}
 use Rattle.stg_derive.proofs.UnderWay.{steps_short}
@@ -43,3 +44,8 @@ returns-clause-under_way c =
           (subst (λ i. P i v.items ws) (c.len-i.ensures ∙ a.steps.ok.0)
           (subst (λ xs. P c.len-i.result xs ws) c.deref_mut.ensures.value told));
     })
+
+pub returns-clause-watching : goal.returns-clause-watching
+returns-clause-watching c =
+    let P : Graph → Type 0 = λ g. IsWatching g c.edit.new.watches in
+    subst P (sym c.in_ok-edit.ensures.now) c.in_ok-edit.ensures.watching

@@ -1,12 +1,19 @@
-use Rattle.std.proofs.Common.{subst}
-use Rattle.stg_redundant.specs.Rules.{IsPlaceFound, IsDummyFound}
+use Rattle.stg_derive.proofs.StillWatching.{watching_places, watching_redundant}
 use Rattle.stg_derive.proofs.choice.next_step.Goals as goal
 
-pub next_contraction-requires-clause-no_redundant_place : goal.next_contraction-requires-clause-no_redundant_place
-next_contraction-requires-clause-no_redundant_place c = subst (IsPlaceFound c.args.editor.now.now) c.in-None.is c.in_ok-found.ensures
+pub returns-in-Some-clause-watching : goal.returns-in-Some-clause-watching
+returns-in-Some-clause-watching c = watching_places c.args.editor.now.now c.args.watches.now c.next_levelled.new.self c.requires.watching c.next_levelled.ensures.kept
 
-pub next_contraction-requires-clause-no_redundant_dummy : goal.next_contraction-requires-clause-no_redundant_dummy
-next_contraction-requires-clause-no_redundant_dummy c = subst (IsDummyFound c.args.editor.now.now) c.in-None-redundant_dummy.is c.redundant_dummy.ensures
+pub next_contraction-requires-clause-watching : goal.next_contraction-requires-clause-watching
+next_contraction-requires-clause-watching c =
+    let g = c.args.editor.now.now in
+    let w = c.args.watches.now in
+    let new = c.next_levelled.new.self in
+    watching_redundant g (record w { places = new }) c.next.new.self (watching_places g w new c.requires.watching c.next_levelled.ensures.kept) c.next.ensures.kept
 
-pub returns-in-Some-redundant_dummy-clause-some : goal.returns-in-Some-redundant_dummy-clause-some
-returns-in-Some-redundant_dummy-clause-some c = (subst (IsPlaceFound c.args.editor.now.now) c.in-None.is c.in_ok-found.ensures, subst (IsDummyFound c.args.editor.now.now) c.in-Some-redundant_dummy.is c.redundant_dummy.ensures)
+pub returns-in-Some-next-clause-watching : goal.returns-in-Some-next-clause-watching
+returns-in-Some-next-clause-watching c =
+    let g = c.args.editor.now.now in
+    let w = c.args.watches.now in
+    let new = c.next_levelled.new.self in
+    watching_redundant g (record w { places = new }) c.next.new.self (watching_places g w new c.requires.watching c.next_levelled.ensures.kept) c.next.ensures.kept

@@ -32,11 +32,15 @@ loop-restored-init c =
     record {
       trying = subst (λ rs. IsTrying n begun rs a.known) (sym c.new-restored.ensures) (subst (IsTrying n begun []) (sym known) (trying_begins n begun (subst (λ m. All (λ s. s < length m.signals) begun) (sym c.net-net.ensures.net) c.requires.in_range)));
       under_way = e.under_way;
+      watching = e.watching;
       undone = subst (λ rs. AreUndoneBy n begun rs a.editor.undone) (sym c.new-restored.ensures) (none_undone n begun a.editor.undone e.undone);
     }
 
 pub go_on-requires-clause-under_way : goal.go_on-requires-clause-under_way
 go_on-requires-clause-under_way c = c.loop-restored.invariant.under_way
+
+pub go_on-requires-clause-watching : goal.go_on-requires-clause-watching
+go_on-requires-clause-watching c = c.loop-restored.invariant.watching
 
 pub record_of-record-requires-clause-there : goal.record_of-record-requires-clause-there
 record_of-record-requires-clause-there c =
@@ -98,5 +102,6 @@ loop-restored-preserved c =
     record {
       trying = subst (λ rs. IsTrying n begun rs c.give_back.new.attempt.known) (sym c.in_ok-push-in-Some.ensures.ok) (subst (IsTrying n begun (restored ++ r ∷ [])) (sym f.known) on);
       under_way = f.under_way;
+      watching = f.watching;
       undone = subst (λ rs. AreUndoneBy n begun rs c.give_back.new.attempt.editor.undone) (sym c.in_ok-push-in-Some.ensures.ok) count;
     }

@@ -45,7 +45,7 @@ returns-clause-under_way c =
     let ws = c.forget_from.new.noted in
     let long = c.forget_from.ensures.len ∙ ap length c.deref_mut.ensures.value in
     let same : (with_items v ws).items ≡ ws = with_items_is v ws (long ∙ sym v.ok.0) in
-    let b : Attempt = record { known = c.loop-attempt.attempt.known; editor = c.show.new.self; steps = c.loop-attempt.attempt.steps; first_undone = with_items v ws } in
+    let b : Attempt = record { known = c.loop-attempt.attempt.known; editor = c.show.new.self; steps = c.loop-attempt.attempt.steps; first_undone = with_items v ws; watches = c.in_ok-attempt-2.field-0 } in
     let done = undoing_ends n c.requires.within c.requires.no_conflict c.requires.is_net a c.loop-attempt.attempt b c.args.signal c.count_kept-kept.result c.loop-attempt.invariant (omega (arith, c.loop-attempt-test.false, c.len.ensures))
     refl c.show.ensures.now c.show.ensures.past c.show.ensures.signals refl (ap length same ∙ long)
     (λ k. ap (λ xs. get_or xs k None) same ∙ c.forget_from.ensures.noted k ∙ ap (λ xs. noted_below c.count_kept-kept.result (get_or xs k None)) c.deref_mut.ensures.value) in

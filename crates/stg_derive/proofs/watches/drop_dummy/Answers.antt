@@ -1,0 +1,19 @@
+use Rattle.std.proofs.Common.{◌≡◌, ◌∙◌, List, ℕ, Contains, refl, sym, ap, subst}
+use Rattle.stg_net.specs.Graph.{Graph}
+use Rattle.stg_net.specs.Contraction.{without_trans}
+use Rattle.stg_edit.specs.Editing.{Editing}
+use Rattle.stg_redundant.specs.Watching.{IsInReach, HasLinkAmong, HasBesides}
+use Rattle.stg_derive.proofs.StillWatching.{watching-without_trans}
+use Rattle.stg_derive.proofs.watches.drop_dummy.Goals as goal
+
+pub returns-clause-watching : goal.returns-clause-watching
+returns-clause-watching c =
+    let g = c.args.editor.now.now in
+    let t = c.args.t in
+    let near : List ℕ = c.deref.result.now in
+    let old = c.args.watches.now.places in
+    let new = c.add_after_deletion.new.self in
+    let same : c.drop_dummy.new.self.now ≡ without_trans g t = c.drop_dummy.ensures.now ∙ ap (λ (e : Editing). without_trans e.now t) c.reserve.ensures.kept in
+    let P : Graph → Type 0 = λ h. HasBesides (IsInReach h (Contains near) (HasLinkAmong h (Contains near))) old new in
+    watching-without_trans g t near c.args.watches.now _ c.requires.no_redundant_place c.requires.calm c.requires.watching refl refl (λ p n. subst (λ ns. Contains ns p) (sym c.deref.ensures.value) ((c.in_ok-near.ensures p).1 n))
+    (subst P same c.in_ok-add_after_deletion.ensures.ok) c.add_round.ensures.kept c.in_ok-add_round.ensures.added
