@@ -1,11 +1,10 @@
 -- The choice of the cheapest candidate.
-use Rattle.std.proofs.Common.{◌≡◌, ℕ, ◌≤◌, ◌⊎◌, ◌^◌, ◌-◌, min, List, Option, ap, refl, subst, inl, inr, arith}
+use Rattle.std.proofs.Common.{◌≡◌, ℕ, ◌≤◌, ◌⊎◌, ◌^◌, ◌-◌, min, List, Option, refl, subst, inl, inr, arith}
 use Rattle.stg_net.specs.Graph.{Graph}
 use Rattle.stg_edit.specs.Replacing.{new_places, new_arcs}
 use Rattle.stg_contract.specs.Candidates.{IsCandidate}
 use Rattle.stg_contract.specs.declared.verdict.Verdict.{Verdict}
 use Rattle.stg_contract.specs.declared.verdict.Verdict.TheVariants as verdict
-use Rattle.stg_contract.specs.Neighbours.{MayContract}
 use Rattle.stg_contract.specs.Verdicts.{IsVerdict}
 use Rattle.stg_contract.specs.WatchedDummies.{WatchesCandidates, WatchesHopeful}
 use Rattle.stg_contract.proofs.PlaceSums.{count_arcs-contracted}

@@ -1,12 +1,11 @@
 -- Which steps stay, as they are noted: what a step adds to the notes, and what an undo takes off.
-use Rattle.std.proofs.Common.{◌≡◌, ◌≢◌, ◌<◌, ◌≤◌, ◌+◌, ◌-◌, ◌⊎◌, ℕ, List, [], ◌∷◌, ◌++◌, length, take, drop, map, unwrap_or, nat_lt, Option, Some, None, refl, sym, ap, ◌∙◌, subst, inl, inr, arith}
+use Rattle.std.proofs.Common.{◌≡◌, ◌≤◌, ◌+◌, ℕ, List, [], ◌∷◌, ◌++◌, length, take, drop, map, unwrap_or, Option, Some, None, refl, sym, ap, ◌∙◌, subst, inl, inr, arith}
 use Rattle.std.proofs.lemmas.Bool.{cases_lt, lt-ltb, le-ltb}
 use Rattle.std.proofs.lemmas.List.{length-append, take-append-le, length-take-le, take-append-drop}
 use Rattle.std.proofs.Math.Seq.{take-length, take-append_seam}
 use Rattle.stg_net.specs.Graph.{Graph}
 use Rattle.stg_net.specs.Contraction.{contracted}
-use Rattle.stg_net.specs.Initial.{initial, graph_of}
-use Rattle.stg_net.specs.Net.{NetLists, IsNet, trans_at}
+use Rattle.stg_net.specs.Net.{NetLists}
 use Rattle.stg_laws.specs.Conflict.{HasNoAutoConflict}
 use Rattle.stg_conflict.specs.Hidden.{with_only, HasConflictFrom}
 use Rattle.stg_conflict.proofs.NewClashes.{no_conflict-without_place, no_conflict-without_trans}
@@ -16,10 +15,9 @@ use Rattle.stg_derive.specs.declared.step.Step.{Step}
 use Rattle.stg_derive.specs.declared.step.Step.TheVariants.{Contract, DropPlace, DropDummy}
 use Rattle.stg_derive.specs.Steps.{stepped}
 use Rattle.stg_derive.specs.Attempts.{stepped_all}
-use Rattle.stg_derive.specs.Undoing.{IsOfAnother, ComparesWithAnother, MayStay, AllStay, IsKeptNumber}
+use Rattle.stg_derive.specs.Undoing.{ComparesWithAnother, MayStay, AllStay, IsKeptNumber}
 use Rattle.stg_derive.specs.inner.UnderWay.{drafts_before, IsFirstUndone, IsNotedWhere, ComparesWith, IsGone, noted_below}
 use Rattle.stg_derive.proofs.OneMoreKnown.{knowing, stepped-knowing}
-use Rattle.stg_derive.proofs.UnderWay.{stepped-last}
 
 -- the drafts before the steps, with one more
 pub drafts-last : (g : Graph) (steps : List Step) (s : Step) → drafts_before g (steps ++ s ∷ []) ≡ drafts_before g steps ++ stepped_all g steps ∷ []

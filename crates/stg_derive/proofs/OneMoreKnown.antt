@@ -1,14 +1,13 @@
 -- The graph in which one more signal is known: what it keeps, and which steps of it are plain.
-use Rattle.std.proofs.Common.{◌≡◌, ◌≢◌, ℕ, ◌<◌, ◌≤◌, ◌⊎◌, Bool, true, false, List, [], ◌∷◌, Option, Some, None, refl, sym, ap, ◌∙◌, subst, inl, inr}
-use Rattle.std.specs.Str.{bytes_eq}
-use Rattle.std.proofs.lemmas.Bool.{cases_Bool, false≢true, or_cases}
+use Rattle.std.proofs.Common.{◌≡◌, ◌≢◌, ℕ, ◌⊎◌, true, false, List, [], ◌∷◌, Option, Some, None, refl, sym, ap, ◌∙◌, inl, inr}
+use Rattle.std.proofs.lemmas.Bool.{cases_Bool, false≢true}
 use Rattle.std.proofs.lemmas.Slice.Eq.{bytes_eq-Decides}
-use Rattle.stg_net.specs.Graph.{Graph, FullName, IsTrans, IsDummy, full_name_at, is_among, has_signal_of}
+use Rattle.stg_net.specs.Graph.{Graph, FullName, IsDummy, full_name_at, is_among, has_signal_of}
 use Rattle.stg_net.specs.Contraction.{contracted}
 use Rattle.stg_laws.specs.Conflict.{IsAutoConflict, HasNoAutoConflict}
 use Rattle.stg_laws.specs.RedundantPlaces.{IsSamePlace, IsLoopPlace, IsLink, IsChain, IsShortcut, IsRedundantPlace, same_place, loop_place, shortcut}
 use Rattle.stg_laws.specs.RedundantDummies.{IsLoopDummy, IsSameDummy, IsRedundantDummy, loop_dummy, same_dummy}
-use Rattle.stg_laws.specs.Secure.{IsPureOrdinary, IsType1, IsType2, IsSecure}
+use Rattle.stg_laws.specs.Secure.{IsType2, IsSecure}
 use Rattle.stg_contract.specs.Verdicts.{IsWithinLimits, HasSecureContraction, IsContractible, IsVerdict}
 use Rattle.stg_redundant.specs.declared.found.PlaceRule.{PlaceRule}
 use Rattle.stg_redundant.specs.declared.found.PlaceRule.TheVariants as place_rule
@@ -21,7 +20,7 @@ use Rattle.stg_derive.specs.declared.step.Step.{Step}
 use Rattle.stg_derive.specs.declared.step.Step.TheVariants.{Contract, DropPlace, DropDummy}
 use Rattle.stg_contract.specs.Candidates.{IsCandidate}
 use Rattle.stg_derive.specs.Steps.{verdict_of, IsPlainStep, stepped}
-use Rattle.stg_derive.specs.Attempts.{stepped_all, ArePlainSteps}
+use Rattle.stg_derive.specs.Attempts.{stepped_all}
 
 -- the graph with these signals known
 abbrev pub knowing : List (List ℕ) → Graph → Graph

@@ -1,13 +1,10 @@
 -- A group has at most one part.
 use Rattle.std.proofs.Common.{◌≡◌, List, ap, ◌∙◌, sym, subst}
-use Rattle.stg_net.specs.Net.{NetLists, IsNet}
-use Rattle.stg_laws.specs.PlainGroups.{Group}
 use Rattle.stg_edit.specs.Compacted.{IsNetOf}
 use Rattle.stg_derive.specs.declared.step.Step.{Step}
 use Rattle.stg_derive.specs.declared.part.Restore.{Restore}
-use Rattle.stg_derive.specs.declared.part.Part.{Part}
-use Rattle.stg_derive.specs.Derivations.{IsDerivedPart, with_restored, last_draft}
-use Rattle.stg_derive.specs.Laws.{AreSameParts, PartIsOne}
+use Rattle.stg_derive.specs.Derivations.{with_restored, last_draft}
+use Rattle.stg_derive.specs.Laws.{PartIsOne}
 use Rattle.stg_derive.proofs.OneDerivation.{derivation_is_one}
 use Rattle.stg_derive.proofs.OneNet.{net_is_one}
 

@@ -1,5 +1,5 @@
 -- A part has one wear.
-use Rattle.std.proofs.Common.{◌≡◌, ◌-◌, ◌^◌, ℕ, List, [], ◌∷◌, length, min, sym, ap, ◌∙◌, subst, arith}
+use Rattle.std.proofs.Common.{◌≡◌, ℕ, List, [], ◌∷◌, length, sym, ap, ◌∙◌, subst, arith}
 use Rattle.stg_net.specs.Graph.{Graph}
 use Rattle.stg_net.specs.Initial.{initial}
 use Rattle.stg_net.specs.Net.{NetLists}

@@ -1,5 +1,5 @@
 -- The steps that stay where a signal is given back are plain steps of the next attempt.
-use Rattle.std.proofs.Common.{◌≡◌, ◌≢◌, ◌==◌, ◌||◌, ℕ, ◌+◌, ◌<◌, ◌≤◌, true, List, [], ◌∷◌, ◌++◌, length, take, map, All, Option, Some, None, is_some, refl, sym, ap, ◌∙◌, subst, inl, inr, arith}
+use Rattle.std.proofs.Common.{◌≡◌, ◌==◌, ◌||◌, ℕ, ◌<◌, true, List, [], ◌∷◌, length, All, Option, Some, None, is_some, refl, sym, ap, ◌∙◌, subst, inl, inr}
 use Rattle.std.proofs.lemmas.Bool.{or_cases, eqb-true}
 use Rattle.stg_net.specs.Component.{is_one_of}
 use Rattle.stg_net.specs.Graph.{Graph, FullName, IsTrans, full_name_at, is_among}
@@ -17,11 +17,11 @@ use Rattle.stg_redundant.specs.declared.found.DummyRule.TheVariants as dummy_rul
 use Rattle.stg_derive.specs.declared.step.Step.{Step}
 use Rattle.stg_derive.specs.declared.step.Step.TheVariants.{Contract, DropPlace, DropDummy}
 use Rattle.stg_derive.specs.Steps.{stepped}
-use Rattle.stg_derive.specs.Attempts.{stepped_all, ArePlainSteps}
+use Rattle.stg_derive.specs.Attempts.{ArePlainSteps}
 use Rattle.stg_derive.specs.Derivations.{known_with}
 use Rattle.stg_derive.specs.Undoing.{IsOfAnother, ComparesWithAnother, MayStay, AllStay}
-use Rattle.stg_derive.proofs.OneMoreKnown.{knowing, stepped-knowing, stepped_all-knowing, HasOneMore, IsApart, ComparesApart, StaysApart, plain_stays}
-use Rattle.stg_derive.proofs.Restoring.{with_old, with_new, with_in_range, steps_named}
+use Rattle.stg_derive.proofs.OneMoreKnown.{knowing, stepped-knowing, HasOneMore, IsApart, ComparesApart, StaysApart, plain_stays}
+use Rattle.stg_derive.proofs.Restoring.{with_old, steps_named}
 use Rattle.stg_derive.proofs.UnderWay.{step_known}
 
 -- the names of the known signals with one more

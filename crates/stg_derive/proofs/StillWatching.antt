@@ -1,5 +1,5 @@
 -- After each edit what is watched is still enough.
-use Rattle.std.proofs.Common.{◌≡◌, ◌≢◌, ◌<◌, ◌≤◌, ◌⊎◌, ℕ, zero, Bool, List, length, Option, Some, None, IsSome, IsTrue, Contains, refl, sym, ap, ◌∙◌, subst, inl, inr, arith}
+use Rattle.std.proofs.Common.{◌≡◌, ◌⊎◌, ℕ, Bool, List, length, Option, Some, None, IsSome, IsTrue, Contains, refl, sym, ap, ◌∙◌, subst, inl, inr, arith}
 use Rattle.std.proofs.lemmas.List.{length-set}
 use Rattle.stg_net.specs.Graph.{Graph, IsDummy}
 use Rattle.stg_net.specs.Contraction.{without_place, without_trans, contracted}

@@ -1,17 +1,15 @@
 -- An attempt goes on: its steps so far, and what is left for it to do.
-use Rattle.std.proofs.Common.{◌≡◌, ℕ, ◌+◌, ◌*◌, ◌<◌, ◌≤◌, ◌^◌, Some, List, [], ◌∷◌, ◌++◌, length, is_some, refl, sym, ap, ◌∙◌, subst, arith}
+use Rattle.std.proofs.Common.{◌≡◌, ℕ, ◌+◌, ◌*◌, ◌<◌, ◌≤◌, ◌^◌, Some, List, [], ◌∷◌, ◌++◌, length, is_some, refl, arith}
 use Rattle.std.proofs.lemmas.List.{length-map}
 use Rattle.std.proofs.lemmas.List.FromFn.{length-map-range_with_len}
 use Rattle.stg_net.specs.Graph.{Graph, place_at, full_name_at}
 use Rattle.stg_net.specs.declared.trans.TransName.{TransName}
-use Rattle.stg_net.specs.Net.{NetLists, IsNet, IsWithin}
+use Rattle.stg_net.specs.Net.{NetLists, IsWithin}
 use Rattle.stg_net.specs.Initial.{place_of, initial, full_name}
 use Rattle.stg_edit.proofs.Compacting.{few_kept}
 use Rattle.stg_net.specs.declared.limits.TheConstants.Limits.{PART}
-use Rattle.stg_laws.specs.Conflict.{HasNoAutoConflict}
 use Rattle.stg_contract.specs.Calm.{IsCalm}
 use Rattle.stg_contract.proofs.Calm.{calm-without_place, calm-without_trans}
-use Rattle.stg_contract.proofs.InitialCalm.{calm-initial}
 use Rattle.stg_derive.specs.declared.step.Step.{Step}
 use Rattle.stg_derive.specs.declared.step.Step.TheVariants.{Contract, DropPlace, DropDummy}
 use Rattle.stg_derive.specs.Steps.{IsPlainStep, stepped}

@@ -1,10 +1,10 @@
 -- An attempt goes on with a step, and goes back where a signal is given back.
-use Rattle.std.proofs.Common.{◌≡◌, ◌≢◌, ◌<◌, ◌≤◌, ◌+◌, ◌-◌, ◌^◌, ◌⊎◌, ℕ, true, false, List, [], ◌∷◌, ◌++◌, min, length, take, drop, map, get_or, set, replicate, unwrap_or, All, Option, Some, None, refl, sym, ap, ◌∙◌, subst, inl, inr, arith}
-use Rattle.std.proofs.lemmas.Bool.{cases_eq, or_cases, false≢true}
+use Rattle.std.proofs.Common.{◌≡◌, ◌<◌, ◌≤◌, ◌+◌, ◌-◌, ◌^◌, ℕ, true, false, List, [], ◌∷◌, ◌++◌, min, length, take, drop, map, get_or, All, Option, Some, None, refl, sym, ap, ◌∙◌, subst, inl, inr, arith}
+use Rattle.std.proofs.lemmas.Bool.{or_cases, false≢true}
 use Rattle.std.proofs.lemmas.Slice.Eq.{bytes_eq-Decides}
 use Rattle.std.specs.Str.{bytes_eq}
 use Rattle.std.specs.List.{range_with_len}
-use Rattle.std.proofs.lemmas.List.{length-append, length-map, length_push, length-take-le, take-append-le, take-append-drop, get_or-map, get_or-set_other, get_or-set_same, same_from_push}
+use Rattle.std.proofs.lemmas.List.{length-append, take-append-drop, same_from_push}
 use Rattle.std.proofs.Math.Seq.{take-length}
 use Rattle.stg_net.specs.declared.limits.TheConstants.Limits.{PART}
 use Rattle.stg_net.specs.Graph.{Graph, FullName, full_name_at, is_among, has_signal_of}
@@ -25,12 +25,12 @@ use Rattle.stg_derive.specs.declared.part.Restore.{Restore}
 use Rattle.stg_derive.specs.declared.step.Step.{Step}
 use Rattle.stg_derive.specs.Steps.{IsPlainStep, IsAtRest, stepped}
 use Rattle.stg_derive.specs.Attempts.{stepped_all, ArePlainSteps, IsAttempt}
-use Rattle.stg_derive.specs.Derivations.{IsStuck, known_with, with_restored}
-use Rattle.stg_derive.specs.Undoing.{AllStay, IsKeptNumber, IsUndoneBy, AreUndone}
+use Rattle.stg_derive.specs.Derivations.{known_with, with_restored}
+use Rattle.stg_derive.specs.Undoing.{AllStay, IsUndoneBy, AreUndone}
 use Rattle.stg_derive.specs.inner.UnderWay.{drafts_before, IsFirstUndone, IsNotedWhere, IsGone, noted_below, kept_steps, IsAttemptSoFar, AreUndoneBy}
 use Rattle.stg_derive.proofs.OneMoreKnown.{knowing, stepped_all-knowing}
 use Rattle.stg_derive.proofs.Staying.{kept_are_plain}
-use Rattle.stg_derive.proofs.Noting.{take-take, drafts-last, length-drafts, drafts-knowing, IsApartIn, apart_stay, first-knowing, first-last, first-take, kept_of, stays_unless, gone_goes}
+use Rattle.stg_derive.proofs.Noting.{take-take, drafts-last, drafts-knowing, IsApartIn, apart_stay, first-knowing, first-last, first-take, kept_of, stays_unless, gone_goes}
 use Rattle.stg_derive.proofs.Restoring.{steps_known, with_in_range}
 use Rattle.stg_derive.proofs.UnderWay.{stepped-last, plain-last, plain-front, step_known, step_first, step_few, step_calm, steps_few, steps_calm, initial_few}
 use Rattle.stg_derive.proofs.FinishedNets.{steps_first}

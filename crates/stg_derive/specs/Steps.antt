@@ -1,6 +1,6 @@
 -- Plain steps: which step of a draft comes next, and the draft after it.
-use Rattle.std.specs.Prelude.{◌≡◌, ◌<◌, ◌≤◌, ◌⊎◌, ℕ, Some}
-use Rattle.stg_net.specs.Graph.{Graph, IsDummy}
+use Rattle.std.specs.Prelude.{◌≡◌, ℕ, Some}
+use Rattle.stg_net.specs.Graph.{Graph}
 use Rattle.stg_net.specs.Contraction.{contracted, without_place, without_trans}
 use Rattle.stg_laws.specs.RedundantPlaces.{IsRedundantPlace}
 use Rattle.stg_laws.specs.RedundantDummies.{IsRedundantDummy}

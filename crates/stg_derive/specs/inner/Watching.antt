@@ -1,5 +1,5 @@
 -- What is watched of a draft: enough to find its next step.
-use Rattle.std.specs.Prelude.{◌≡◌, ℕ, length}
+use Rattle.std.specs.Prelude.{◌≡◌, length}
 use Rattle.stg_net.specs.Graph.{Graph}
 use Rattle.stg_contract.specs.WatchedDummies.{WatchesHopeful, AreLeastPlaces}
 use Rattle.stg_redundant.specs.Levelled.{IsLevelled}

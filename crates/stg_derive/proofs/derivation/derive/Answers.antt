@@ -3,8 +3,7 @@ use Rattle.stg_net.specs.Net.{NetLists, IsNet}
 use Rattle.stg_net.specs.Initial.{graph_of}
 use Rattle.stg_laws.specs.Conflict.{HasNoAutoConflict}
 use Rattle.stg_laws.specs.PlainGroups.{Group}
-use Rattle.stg_derive.specs.declared.part.Restore.{Restore}
-use Rattle.stg_derive.specs.Derivations.{IsStuck, known_with}
+use Rattle.stg_derive.specs.Derivations.{known_with}
 use Rattle.stg_derive.specs.inner.UnderWay.{AreUndoneBy}
 use Rattle.stg_derive.proofs.Restoring.{IsTrying, many_hidden, stuck_at, stuck_hidden, trying_begins, trying_goes_on, trying_less, dummy_there}
 use Rattle.stg_derive.proofs.Undone.{attempt_rests, none_undone, counted-last}
