@@ -1,12 +1,11 @@
 -- The choice of the cheapest candidate.
-use Rattle.std.proofs.Common.{◌≡◌, ℕ, ◌≤◌, ◌⊎◌, ◌^◌, ◌-◌, min, List, Option, refl, subst, inl, inr, arith}
+use Rattle.std.proofs.Common.{◌≡◌, ℕ, ◌≤◌, ◌⊎◌, ◌^◌, ◌-◌, min, refl, subst, inl, inr, arith}
 use Rattle.stg_net.specs.Graph.{Graph}
 use Rattle.stg_edit.specs.Replacing.{new_places, new_arcs}
 use Rattle.stg_contract.specs.Candidates.{IsCandidate}
 use Rattle.stg_contract.specs.declared.verdict.Verdict.{Verdict}
 use Rattle.stg_contract.specs.declared.verdict.Verdict.TheVariants as verdict
 use Rattle.stg_contract.specs.Verdicts.{IsVerdict}
-use Rattle.stg_contract.specs.WatchedDummies.{WatchesCandidates, WatchesHopeful}
 use Rattle.stg_contract.proofs.PlaceSums.{count_arcs-contracted}
 use Rattle.stg_derive.proofs.StepEffects.{few_new}
 
@@ -30,10 +29,6 @@ type2_of g t v r c other = elim (verdict_yes g t v r c) [
   | inl e ↦ absurd (other e)
   | inr e ↦ subst (IsVerdict g t) e r
 ]
-
--- where each dummy is watched that only numbers may keep from a contraction, each candidate is
-pub candidates_watched : (g : Graph) (watch : List (Option ℕ)) → WatchesHopeful g watch → WatchesCandidates g watch
-candidates_watched g watch hopeful t c = hopeful t c.dummy (record { contraction = c.contractible.contraction; no_conflict = c.contractible.no_conflict })
 
 -- the number of new places of what may be contracted is told
 pub told_places : (g : Graph) (t : ℕ) → g.first_places ≤ 4064 → IsCandidate g t → min (new_places g t) (2 ^ 32 - 1) ≡ new_places g t

@@ -9,7 +9,7 @@ use Rattle.stg_edit.specs.Replacing.{new_places}
 use Rattle.stg_contract.specs.Calm.{IsCalm}
 use Rattle.stg_contract.specs.Candidates.{IsCandidate}
 use Rattle.stg_contract.specs.Neighbours.{HasArc, AreNeighbours, MayContract}
-use Rattle.stg_contract.specs.WatchedDummies.{least_places, IsWatchedDummy, WatchesHopeful, AreLeastPlaces, AddsDummies, IsAdded, DropsHopeless}
+use Rattle.stg_contract.specs.WatchedDummies.{least_places, IsWatchedDummy, WatchesHopeful, AreLeastPlaces, AddsDummies, IsAdded}
 use Rattle.stg_contract.proofs.DummyEdits.{may_contract-without_place, new_places-without_place, may_contract-without_trans, new_places-without_trans, may_contract-contracted, new_places-contracted}
 use Rattle.stg_contract.proofs.RoundEdits.{cases_arc, no_arc, cases_neighbours, dummy-without_place, dummy-without_trans, dummy-contracted}
 use Rattle.stg_redundant.specs.FlaggedDummies.{FlagsRedundant, FlagsMore, IsFlagged, IsFlaggedWithAlike, DropsUseful}
@@ -125,17 +125,6 @@ watching_redundant g w new old drops = record {
   hopeful = old.hopeful;
   least = old.least;
   long = old.long;
-}
-
-pub watching_dummies : (g : Graph) (w : Watches) (new : List (Option ℕ)) → IsWatching g w → DropsHopeless g w.dummies new → AreLeastPlaces g new → IsWatching g (record w { dummies = new })
-watching_dummies g w new old drops least = record {
-  levelled = old.levelled;
-  places = old.places;
-  redundant = old.redundant;
-  redundant_long = old.redundant_long;
-  hopeful = λ t d m. drops.hopeful t (old.hopeful t d m) d m;
-  least = least;
-  long = drops.as_long ∙ old.long;
 }
 
 -- all is enough
