@@ -1,9 +1,10 @@
 -- The forms in memory as contracts see them.
-use Rattle.std.specs.Prelude.{ℕ, List, [], Some}
+use Rattle.std.specs.Prelude.{ℕ, Bool, false, List, [], map, Some}
 use Rattle.io_shelf.specs.declared.calls.Calls.{Calls}
 use Rattle.io_shelf.specs.Calls.{fresh_calls}
 use Rattle.io_shelf.specs.Entries.{NamedBytes, files_of}
 use Rattle.io_shelf.specs.Outside.{SeenSource, SeenShelf, SeenSink}
+use Rattle.io_shelf.specs.Doors.{SeenLink, SeenDoors}
 
 -- a source: its texts, what is left of the selected one, and the most that one read gives
 pub record SourceState : Type 0 where
@@ -58,3 +59,67 @@ seen_shelf s = record { files = Some (files_of s.files); faults = s.calls.faults
 -- and a sink
 abbrev pub seen_sink : SinkState → SeenSink
 seen_sink s = record { written = Some s.bytes; faults = s.calls.faults }
+
+-- a link: its bytes left and written, the most that one read gives, how many bytes can be written,
+-- and whether a read failed
+pub record LinkState : Type 0 where
+  pub left : List ℕ
+  pub written : List ℕ
+  pub piece : ℕ
+  pub room : ℕ
+  pub broken : Bool
+  pub calls : Calls
+
+-- doors: the links to come at an address, the finished ones, whether they were told to listen, and
+-- whether they do
+pub record DoorsState : Type 0 where
+  pub addr : List ℕ
+  pub coming : List LinkState
+  pub finished : List LinkState
+  pub asked : Bool
+  pub listening : Bool
+  pub calls : Calls
+
+-- before any call
+abbrev pub fresh_link : List ℕ → ℕ → ℕ → List ℕ → LinkState
+fresh_link input piece room fails = record {
+  left = input;
+  written = [];
+  piece = piece;
+  room = room;
+  broken = false;
+  calls = fresh_calls fails;
+}
+
+-- before any call
+abbrev pub fresh_doors : List ℕ → List LinkState → List ℕ → DoorsState
+fresh_doors addr links fails = record {
+  addr = addr;
+  coming = links;
+  finished = [];
+  asked = false;
+  listening = false;
+  calls = fresh_calls fails;
+}
+
+-- a link tells all its bytes
+abbrev pub seen_link : LinkState → SeenLink
+seen_link l = record {
+  left = Some l.left;
+  written = Some l.written;
+  faults = l.calls.faults;
+  broken = l.broken;
+}
+
+-- and doors all their links
+abbrev pub seen_doors : DoorsState → SeenDoors
+seen_doors d = record {
+  links = Some (record {
+    addr = d.addr;
+    coming = map seen_link d.coming;
+    finished = map seen_link d.finished;
+  });
+  asked = d.asked;
+  listening = d.listening;
+  faults = d.calls.faults;
+}

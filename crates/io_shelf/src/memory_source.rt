@@ -7,6 +7,7 @@ ghost use Rattle.io_shelf.specs.Entries.{NamedBytes, bytes_at, bytes_of};
 ghost use Rattle.io_shelf.specs.Memory.{fresh_source, seen_source};
 
 use crate::calls::Calls;
+use crate::copying::copy_front;
 use crate::entries::place_of;
 use crate::outside::{Failed, Source};
 use std::marker::Model;
@@ -128,14 +129,4 @@ fn text_at(texts: &[(Text, Text)], at: usize) -> &[u8]
         Some(entry) => entry.1.as_slice(),
         None => &[],
     }
-}
-
-// Copies at most so many bytes to the front of a buffer.
-fn copy_front(bytes: &[u8], buf: &mut [u8], most: usize) -> usize
-    ensures count { result ≡ min (min (length bytes.now) (length buf.old)) most }
-    ensures copied { take result buf.new ≡ take result bytes.now }
-{
-    let count = bytes.len().min(buf.len()).min(most);
-    buf[..count].copy_from_slice(&bytes[..count]);
-    count
 }
