@@ -13,9 +13,9 @@ pub record SeenLink : Type 0 where
   pub broken : Bool
 
 -- a read that fails sets the mark, and one that doesn't leaves it
-abbrev pub broken_by : {T : Type 0} → Result T Failed → Bool → Bool
-broken_by (Ok n) broken = broken
-broken_by (Err e) broken = true
+abbrev pub broken_after : {T : Type 0} → Result T Failed → Bool → Bool
+broken_after (Ok n) broken = broken
+broken_after (Err e) broken = true
 
 -- a link tells its bytes
 pub record TellsBytes (l : SeenLink) : Type 0 where
@@ -42,12 +42,12 @@ pub record SeenDoors : Type 0 where
   pub faults : ℕ
 
 -- a link without bytes, which stands for one that doesn't come
-abbrev pub no_link : SeenLink
-no_link = record { left = Some []; written = Some []; faults = 0; broken = false }
+abbrev pub absent_link : SeenLink
+absent_link = record { left = Some []; written = Some []; faults = 0; broken = false }
 
 -- the first of the links to come
 abbrev pub first_link : List SeenLink → SeenLink
-first_link [] = no_link
+first_link [] = absent_link
 first_link (l ∷ ls) = l
 
 -- the links at an address, where none is to come unless it is their own

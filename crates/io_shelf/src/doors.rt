@@ -3,7 +3,7 @@
 ghost use Rattle.std.specs.Prelude.{◌≡◌, ◌<◌, ◌≤◌, length, take, true, false, None, IsSome, IfSome, IfOk, OnOk, OnErr, is_some, is_ok};
 ghost use Rattle.std.specs.Io.KnownBytes.{IsAtEnd, append_known, prepend_known};
 ghost use Rattle.io_shelf.specs.Outside.{HasCause};
-ghost use Rattle.io_shelf.specs.Doors.{SeenLink, SeenDoors, IsNewLink, TellsBytes, broken_by, first_link, listened_at, with_finished, without_first};
+ghost use Rattle.io_shelf.specs.Doors.{SeenLink, SeenDoors, IsNewLink, TellsBytes, broken_after, first_link, listened_at, with_finished, without_first};
 
 use crate::outside::Failed;
 use stg_net::NoMemory;
@@ -23,7 +23,7 @@ pub trait Link {
         // After a failure what is left isn't said, but that it is told where it was told before.
         ensures failed { OnErr result
             (is_some (seen self.new).left ≡ is_some (seen self.old).left) }
-        ensures broken { (seen self.new).broken ≡ broken_by result (seen self.old).broken }
+        ensures broken { (seen self.new).broken ≡ broken_after result (seen self.old).broken }
         ensures cause { HasCause (seen self.old).faults (seen self.new).faults result }
         ensures kept { (seen self.new).written ≡ (seen self.old).written };
 

@@ -3,7 +3,7 @@
 ghost use Rattle.std.specs.Prelude.{◌≡◌, ◌-◌, ◌<◌, ◌≤◌, ◌++◌, ◌⊎◌, ◌↔◌, length, take, drop, min, true, IfOk, OnErr, IsErr, []};
 ghost use Rattle.io_shelf.specs.Outside.{HasCause};
 ghost use Rattle.io_shelf.specs.Calls.{FailsNext, after_call, after_fault};
-ghost use Rattle.io_shelf.specs.Doors.{broken_by};
+ghost use Rattle.io_shelf.specs.Doors.{broken_after};
 ghost use Rattle.io_shelf.specs.Memory.{fresh_link, seen_link};
 
 use crate::calls::Calls;
@@ -114,7 +114,7 @@ impl Link for MemLink {
           broken = true;
           calls = after_fault self.old.calls;
         }) }
-        ensures broken { self.new.broken ≡ broken_by result self.old.broken }
+        ensures broken { self.new.broken ≡ broken_after result self.old.broken }
         ensures cause { HasCause self.old.calls.faults self.new.calls.faults result }
         ensures kept { self.new.written ≡ self.old.written }
     {
