@@ -341,18 +341,18 @@ module _ (old new : List (Option ℕ)) (long : length new ≡ length old) (same 
   pub forgotten_watches : (g : Graph) → WatchesCandidates g old → WatchesCandidates g new
   forgotten_watches g watches t c = watched_after t (watches t c)
 
--- a dummy is added
-pub added_queue : (watch : List (Option ℕ)) (t : ℕ) (q r : Queued) → AreQueued watch q → t < length watch
-    → IsPermutation ((0, t) ∷ q.waiting) r.waiting → r.aside ≡ q.aside
-    → AreQueued (set watch t (Some 0)) r
-added_queue watch t q r queued low p aside = record {
-  listed = λ u n e. Contains-permutation ((0, t) ∷ q.waiting) r.waiting (n, u) p (elim (cases_eq u t) [
+-- so many places are kept for a dummy
+pub kept_queue : (watch : List (Option ℕ)) (t k : ℕ) (q r : Queued) → AreQueued watch q → t < length watch
+    → IsPermutation ((k, t) ∷ q.waiting) r.waiting → r.aside ≡ q.aside
+    → AreQueued (set watch t (Some k)) r
+kept_queue watch t k q r queued low p aside = record {
+  listed = λ u n e. Contains-permutation ((k, t) ∷ q.waiting) r.waiting (n, u) p (elim (cases_eq u t) [
     | inl same ↦
-        let numbers : Some 0 ≡ Some n = sym (least-set watch t (Some 0) low) ∙ ap (least_places (set watch t (Some 0))) (sym same) ∙ e in
-        let is : 0 ≡ n = cc in
-        subst (λ (x : ℕ × ℕ). Contains ((0, t) ∷ q.waiting) x) (λ i. (is i, sym same i)) (first_contained (0, t) q.waiting)
-    | inr differs ↦ later_contained (0, t) (n, u) q.waiting (queued.listed u n (sym (least-set_other watch t u (Some 0) differs) ∙ e))
+        let numbers : Some k ≡ Some n = sym (least-set watch t (Some k) low) ∙ ap (least_places (set watch t (Some k))) (sym same) ∙ e in
+        let is : k ≡ n = cc in
+        subst (λ (x : ℕ × ℕ). Contains ((k, t) ∷ q.waiting) x) (λ i. (is i, sym same i)) (first_contained (k, t) q.waiting)
+    | inr differs ↦ later_contained (k, t) (n, u) q.waiting (queued.listed u n (sym (least-set_other watch t u (Some k) differs) ∙ e))
   ]);
-  below = subst (λ k. AreEntriesBelow k r.waiting) (sym (length-set watch t (Some 0))) (All-permutation (λ (x : ℕ × ℕ). x.1 < length watch) ((0, t) ∷ q.waiting) r.waiting p (All-cons (λ (x : ℕ × ℕ). x.1 < length watch) (0, t) q.waiting low queued.below));
+  below = subst (λ m. AreEntriesBelow m r.waiting) (sym (length-set watch t (Some k))) (All-permutation (λ (x : ℕ × ℕ). x.1 < length watch) ((k, t) ∷ q.waiting) r.waiting p (All-cons (λ (x : ℕ × ℕ). x.1 < length watch) (k, t) q.waiting low queued.below));
   none_aside = aside ∙ queued.none_aside;
 }

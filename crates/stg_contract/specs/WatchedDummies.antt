@@ -35,12 +35,13 @@ pub record DropsHopeless (g : Graph) (old new : List (Option ℕ)) : Type 0 wher
   pub hopeful : (t : ℕ) → IsWatchedDummy old t → IsDummy g t → MayContract g t
       → IsWatchedDummy new t
 
--- for each transition the new watch keeps what the old one keeps, or that its contraction makes 0
--- places at least
-pub record AddsDummies (old new : List (Option ℕ)) : Type 0 where
-  pub as_long : length new ≡ length old
-  pub kept : (t : ℕ) → (least_places new t ≡ least_places old t) ⊎ (least_places new t ≡ Some 0)
+-- the watch keeps for u, where u is a dummy, the number of places that its contraction makes
+abbrev pub IsWeighed : Graph → List (Option ℕ) → ℕ → Type 0
+IsWeighed g watch u = IsDummy g u → least_places watch u ≡ Some (new_places g u)
 
--- the watch keeps 0 places for u, where u is a dummy
-abbrev pub IsAdded : Graph → List (Option ℕ) → ℕ → Type 0
-IsAdded g watch u = IsDummy g u → least_places watch u ≡ Some 0
+-- for each transition the new watch keeps what the old one keeps, or it is a dummy, and the new watch
+-- keeps the number of places that its contraction makes
+pub record WeighsDummies (g : Graph) (old new : List (Option ℕ)) : Type 0 where
+  pub as_long : length new ≡ length old
+  pub kept : (t : ℕ) → (least_places new t ≡ least_places old t)
+      ⊎ (IsDummy g t × (least_places new t ≡ Some (new_places g t)))

@@ -123,3 +123,17 @@ pub fn test_calm(editor: &Editor, t: u32) -> Verdict
 {
     judge(editor, t, Reach::Near)
 }
+
+/// Tells the verdict on a dummy that can be contracted. It looks at the places alone from which the
+/// dummy takes.
+pub fn test_contractible(editor: &Editor, t: u32) -> Verdict
+    requires live { IsTrans editor.now.now t }
+    requires contractible { verdicts.IsContractible editor.now.now t }
+    ensures { verdicts.IsVerdict editor.now.now t result }
+{
+    if is_type1(editor, t) {
+        Verdict::Type1
+    } else {
+        Verdict::Type2
+    }
+}

@@ -26,7 +26,7 @@ mod watch;
 mod worked;
 
 pub use contraction::{contract, cost, new_places};
-pub use judge::{test, test_calm};
+pub use judge::{test, test_calm, test_contractible};
 pub use laws::{law_calm, law_one_verdict};
 pub use verdict::{Cost, Verdict};
 pub use watch::DummyWatch;

@@ -3,6 +3,7 @@
 ghost use Rattle.std.specs.Prelude.{◌≡◌};
 ghost use Rattle.std.specs.List.{list_all, list_any};
 ghost use Rattle.stg_net.specs.Graph.{IsTrans};
+ghost use Rattle.stg_edit.specs.Drafts.{IsDraft};
 ghost use Rattle.stg_contract.specs.inner.Weights.{ArePlaces};
 ghost use Rattle.stg_contract.specs.inner.Tests as tests;
 
@@ -51,7 +52,8 @@ fn has_empty(editor: &Editor, places: Walk<'_>) -> bool
 /// Whether no other transition takes from a place from which t takes.
 pub fn is_type1(editor: &Editor, t: u32) -> bool
     requires { IsTrans editor.now.now t }
-    ensures { result ≡ tests.is_type1 editor.now.now t }
+    ensures value { result ≡ tests.is_type1 editor.now.now t }
+    ensures draft { IsDraft editor.now }
 {
     is_sole_taker(editor, editor.takes(t), t)
 }

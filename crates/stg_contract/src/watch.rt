@@ -1,20 +1,19 @@
 //! A watch of dummies, which finds the cheapest candidate without a look at all.
 
-ghost use Rattle.std.specs.Prelude.{◌≡◌, ◌<◌, ℕ, All, IfOk, IfSome, OnOk, OnErr, None, Some, length, slice_set};
-ghost use Rattle.stg_net.specs.Graph.{IsPlace, IsTrans, IsDummy};
+ghost use Rattle.std.specs.Prelude.{◌≡◌, ◌<◌, ℕ, Contains, IfOk, IfSome, OnOk, OnErr, None, Some, length, slice_set};
+ghost use Rattle.stg_net.specs.Graph.{IsDummy};
 ghost use Rattle.stg_contract.specs.Calm.{IsCalm};
 ghost use Rattle.stg_contract.specs.Candidates.{IsCandidate, IsCheapest};
-ghost use Rattle.stg_contract.specs.Neighbours.{HasArc, AreNeighbours};
-ghost use Rattle.stg_contract.specs.WatchedDummies.{IsWatchedDummy, WatchesCandidates, AreLeastPlaces, DropsHopeless, AddsDummies, IsAdded};
-ghost use Rattle.stg_contract.specs.inner.Watches.{HasNumber};
+ghost use Rattle.stg_contract.specs.WatchedDummies.{IsWatchedDummy, WatchesCandidates, AreLeastPlaces, DropsHopeless, WeighsDummies, IsWeighed};
 
 use crate::cheapest::{is_kept, search, search_anew};
+use crate::contraction::count_new_places;
 use crate::outlook::is_dummy;
 use crate::queue::Queue;
 use crate::reach::Reach;
 use std::alloc::Global;
 use std::marker::Model;
-use stg_edit::{Editor, Walk};
+use stg_edit::Editor;
 use stg_net::NoMemory;
 
 /// Watches dummies, and tells which of them is the cheapest candidate. Contracts see for each
@@ -39,10 +38,10 @@ impl Model for DummyWatch {
 }
 
 impl DummyWatch {
-    /// Watches each live dummy.
+    /// Watches each live dummy, with the number of places that its contraction makes.
     pub fn of(alloc: Global, editor: &Editor) -> Result<DummyWatch, NoMemory>
         ensures long { IfOk result (λ w. length w ≡ length editor.now.now.trans) }
-        ensures watched { IfOk result (λ w. (t : ℕ) → IsAdded editor.now.now w t) }
+        ensures weighed { IfOk result (λ w. (t : ℕ) → IsWeighed editor.now.now w t) }
         ensures only { IfOk result
             (λ w. (t : ℕ) → IsWatchedDummy w t → IsDummy editor.now.now t) }
     {
@@ -52,11 +51,24 @@ impl DummyWatch {
             queue: Queue::new(alloc),
         };
         for t in 0..all {
-            if is_dummy(editor, t) {
-                watch.add(t)?;
-            }
+            watch.weigh(editor, t)?;
         }
         Ok(watch)
+    }
+
+    /// Watches a transition, whose contraction makes at least so many places.
+    fn keep(&mut self, t: u32, places: u64) -> Result<(), NoMemory>
+        requires { t < length self.old }
+        ensures ok { OnOk result (self.new ≡ slice_set self.old t (Some places)) }
+        ensures err { OnErr result (self.new ≡ self.old) }
+    {
+        if is_kept(self.least[t as usize], places) {
+            return Ok(());
+        }
+        self.queue.reserve()?;
+        self.queue.push(places, t);
+        self.least[t as usize] = Some(places);
+        Ok(())
     }
 
     /// Watches a transition, whatever number of places its contraction makes.
@@ -65,40 +77,34 @@ impl DummyWatch {
         ensures ok { OnOk result (self.new ≡ slice_set self.old t (Some 0)) }
         ensures err { OnErr result (self.new ≡ self.old) }
     {
-        if is_kept(self.least[t as usize], 0) {
-            return Ok(());
+        self.keep(t, 0)?;
+        Ok(())
+    }
+
+    /// Watches a transition, where it is a dummy now, with the number of places that its
+    /// contraction makes now.
+    fn weigh(&mut self, editor: &Editor, t: u32) -> Result<(), NoMemory>
+        requires long { length self.old ≡ length editor.now.now.trans }
+        ensures weighed { OnOk result (IsWeighed editor.now.now self.new t) }
+        ensures kept { WeighsDummies editor.now.now self.old self.new }
+    {
+        if is_dummy(editor, t) {
+            self.keep(t, count_new_places(editor, t))?;
         }
-        self.queue.reserve()?;
-        self.queue.push(0, t);
-        self.least[t as usize] = Some(0);
         Ok(())
     }
 
-    /// Watches each dummy that takes from a live place or gives to it. After an error some of them
-    /// may not be watched.
-    pub fn add_at(&mut self, editor: &Editor, p: u32) -> Result<(), NoMemory>
-        requires place { IsPlace editor.now.now p }
+    /// Watches those of these transitions that are dummies now, with the number of places that the
+    /// contraction of each makes now. After an error some of them may not be watched.
+    pub fn add_each(&mut self, editor: &Editor, trans: &[u32]) -> Result<(), NoMemory>
         requires long { length self.old ≡ length editor.now.now.trans }
-        ensures added { OnOk result ((u : ℕ) → HasArc editor.now.now u p
-            → IsAdded editor.now.now self.new u) }
-        ensures kept { AddsDummies self.old self.new }
+        ensures weighed { OnOk result ((u : ℕ) → Contains trans.now u
+            → IsWeighed editor.now.now self.new u) }
+        ensures kept { WeighsDummies editor.now.now self.old self.new }
     {
-        add_all(self, editor, editor.takers(p))?;
-        add_all(self, editor, editor.givers(p))?;
-        Ok(())
-    }
-
-    /// Watches each dummy that has an arc with a place with which a live transition has one. After
-    /// an error some of them may not be watched.
-    pub fn add_round(&mut self, editor: &Editor, t: u32) -> Result<(), NoMemory>
-        requires live { IsTrans editor.now.now t }
-        requires long { length self.old ≡ length editor.now.now.trans }
-        ensures added { OnOk result ((u : ℕ) → AreNeighbours editor.now.now t u
-            → IsAdded editor.now.now self.new u) }
-        ensures kept { AddsDummies self.old self.new }
-    {
-        add_at_each(self, editor, editor.takes(t))?;
-        add_at_each(self, editor, editor.gives(t))?;
+        for u in trans {
+            self.weigh(editor, *u)?;
+        }
         Ok(())
     }
 
@@ -128,43 +134,4 @@ impl DummyWatch {
     {
         search(editor, &mut self.least, &mut self.queue, Reach::Near)
     }
-}
-
-/// Watches a transition, where it is a dummy.
-fn add_dummy(watch: &mut DummyWatch, editor: &Editor, t: u32) -> Result<(), NoMemory>
-    requires { t < length watch.old }
-    ensures added { OnOk result (IsAdded editor.now.now watch.new t) }
-    ensures kept { AddsDummies watch.old watch.new }
-{
-    if is_dummy(editor, t) {
-        return watch.add(t);
-    }
-    Ok(())
-}
-
-/// Watches each dummy of a walk.
-fn add_all(watch: &mut DummyWatch, editor: &Editor, trans: Walk<'_>) -> Result<(), NoMemory>
-    requires { All (λ x. x.0 < length watch.old) trans }
-    ensures added { OnOk result ((u : ℕ) → HasNumber u trans.entry
-        → IsAdded editor.now.now watch.new u) }
-    ensures kept { AddsDummies watch.old watch.new }
-{
-    for (t, _) in trans {
-        add_dummy(watch, editor, t)?;
-    }
-    Ok(())
-}
-
-/// Watches each dummy that has an arc with a place of a walk.
-fn add_at_each(watch: &mut DummyWatch, editor: &Editor, places: Walk<'_>) -> Result<(), NoMemory>
-    requires places { All (λ x. IsPlace editor.now.now x.0) places }
-    requires long { length watch.old ≡ length editor.now.now.trans }
-    ensures added { OnOk result ((p u : ℕ) → HasNumber p places.entry
-        → HasArc editor.now.now u p → IsAdded editor.now.now watch.new u) }
-    ensures kept { AddsDummies watch.old watch.new }
-{
-    for (p, _) in places {
-        watch.add_at(editor, p)?;
-    }
-    Ok(())
 }

@@ -13,7 +13,7 @@ ghost use Rattle.stg_derive.specs.inner.Watching.{IsWatching};
 
 use crate::watches::Watches;
 use crate::{Secure, Step};
-use stg_contract::{Verdict, new_places, test_calm};
+use stg_contract::{Verdict, new_places, test_contractible};
 use stg_edit::Editor;
 use stg_net::NoMemory;
 
@@ -27,10 +27,9 @@ fn is_dummy(editor: &Editor, t: u32) -> bool
 /// The type by which the contraction of a candidate is secure.
 fn secure_of(editor: &Editor, t: u32) -> Secure
     requires candidate { IsCandidate editor.now.now t }
-    requires calm { IsCalm editor.now.now }
     ensures { IsVerdict editor.now.now t (verdict_of result) }
 {
-    match test_calm(editor, t) {
+    match test_contractible(editor, t) {
         Verdict::Type1 => Secure::Type1,
         _ => Secure::Type2,
     }
@@ -40,7 +39,6 @@ fn secure_of(editor: &Editor, t: u32) -> Secure
 fn contraction_of(editor: &Editor, t: u32) -> Step
     requires cheapest { IsCheapest editor.now.now t }
     requires first { editor.now.now.first_places ≤ 4064 }
-    requires calm { IsCalm editor.now.now }
     requires no_redundant_place { HasNoRedundantPlace editor.now.now }
     requires no_redundant_dummy { HasNoRedundantDummy editor.now.now }
     ensures { IsPlainStep editor.now.now result }

@@ -13,7 +13,10 @@ use std::alloc::Global;
 use stg_contract::{DummyWatch, contract, cost};
 use stg_edit::Editor;
 use stg_net::NoMemory;
-use stg_redundant::{Levels, PlaceWatch, RedundantWatch, has_other_near, near_places};
+use stg_redundant::{
+    Levels, PlaceWatch, RedundantWatch, has_other_near, list_trans_at, list_trans_round,
+    near_places,
+};
 
 /// What is watched of a draft.
 #[derive(Drop)]
@@ -26,6 +29,8 @@ pub struct Watches {
     pub redundant: RedundantWatch,
     /// Dummies that may be contractible.
     pub dummies: DummyWatch,
+    /// The transitions near an edit.
+    pub near: Vec<u32>,
 }
 
 /// Watches all of a draft.
@@ -37,6 +42,7 @@ pub fn watch_all(alloc: Global, editor: &Editor) -> Result<Watches, NoMemory>
         places: PlaceWatch::of(alloc, editor)?,
         redundant: RedundantWatch::of(alloc, editor)?,
         dummies: DummyWatch::of(alloc, editor)?,
+        near: Vec::new(alloc),
     })
 }
 
@@ -52,10 +58,12 @@ fn drop_place(editor: &mut Editor, watches: &mut Watches, p: u32) -> Result<(), 
     ensures watching { OnOk result
         (IsWatching (without_place editor.old.now p) watches.new) }
 {
-    watches.redundant.add_at(editor, p)?;
-    watches.dummies.add_at(editor, p)?;
+    watches.near.clear();
+    list_trans_at(editor, p, &mut watches.near)?;
     editor.reserve(1, 0, 0)?;
     editor.drop_place(p);
+    watches.redundant.add_each(editor, &watches.near)?;
+    watches.dummies.add_each(editor, &watches.near)?;
     Ok(())
 }
 
@@ -78,9 +86,11 @@ fn drop_dummy(
         (IsWatching (without_trans editor.old.now t) watches.new) }
 {
     let near = near_places(alloc, editor, t)?;
-    watches.dummies.add_round(editor, t)?;
+    watches.near.clear();
+    list_trans_round(editor, t, &mut watches.near)?;
     editor.reserve(1, 0, 0)?;
     editor.drop_dummy(t);
+    watches.dummies.add_each(editor, &watches.near)?;
     watches.places.add_after_deletion(editor, &near)?;
     Ok(())
 }
@@ -100,11 +110,13 @@ fn contract_dummy(editor: &mut Editor, watches: &mut Watches, t: u32) -> Result<
 {
     let first = editor.next_place();
     let had_other = has_other_near(editor, t);
-    watches.redundant.add_round(editor, t)?;
-    watches.dummies.add_round(editor, t)?;
+    watches.near.clear();
+    list_trans_round(editor, t, &mut watches.near)?;
     let cost = cost(editor, t);
     editor.reserve(1, cost.places, cost.arcs)?;
     contract(editor, t);
+    watches.redundant.add_each(editor, &watches.near)?;
+    watches.dummies.add_each(editor, &watches.near)?;
     watches
         .places
         .add_after_contraction(editor, first, had_other)?;

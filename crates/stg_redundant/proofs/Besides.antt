@@ -4,7 +4,7 @@ use Rattle.std.proofs.lemmas.Bool.{cases_lt}
 use Rattle.std.proofs.lemmas.List.{get_or_default}
 use Rattle.std.proofs.lemmas.List.Elements.{Contains-append_left, Contains-push}
 use Rattle.stg_redundant.specs.inner.Chains.{IsAmong}
-use Rattle.stg_redundant.specs.Watching.{HasNoneBesides, HasBesides}
+use Rattle.stg_redundant.specs.Watching.{HasBesides}
 use Rattle.stg_redundant.proofs.WatchLists.{contains_split}
 
 -- what the list has, and what is left, make what it had and all that is more
@@ -85,11 +85,6 @@ passing_split test x whole left e p = (to, from)
     from (inl h) = ((among_split x whole left e p).1 (inl h.0), h.1)
     from (inr h) = ((among_split x whole left e p).1 (inr h.0), h.1)
 
--- what a list had it has still
-pub still_has : (IsMore : ℕ → Type 0) (old now : List ℕ) → HasBesides IsMore old now
-    → HasNoneBesides now old
-still_has IsMore old now added p c = (added p).1 (inl c)
-
 -- what holds besides may be told in another way
 pub besides_same : (IsMore IsAlso : ℕ → Type 0) (old now : List ℕ) → ((p : ℕ) → IsMore p ↔ IsAlso p)
     → HasBesides IsMore old now → HasBesides IsAlso old now
@@ -119,32 +114,6 @@ besides_both IsFirst IsLater old mid now first later p = (to, from)
     from (inl c) = (later p).1 (inl ((first p).1 (inl c)))
     from (inr (inl f)) = (later p).1 (inl ((first p).1 (inr f)))
     from (inr (inr l)) = (later p).1 (inr l)
-
--- one of the numbers from the i-th on
-abbrev pub IsFrom : List ℕ → ℕ → ℕ → Type 0
-IsFrom xs i p = (k : ℕ) × (i ≤ k) × (k < length xs) × (get_or xs k p ≡ p)
-
--- it is the i-th, or one of those after it
-pub from_split : (xs : List ℕ) (i x : ℕ) → i < length xs → get_or xs i x ≡ x → (p : ℕ)
-    → IsFrom xs i p ↔ ((p ≡ x) ⊎ IsFrom xs (i + 1) p)
-from_split xs i x low is p = (to, from)
-  where
-    at : get_or xs i p ≡ x
-    at = get_or_default xs i p x low ∙ is
-
-    to : IsFrom xs i p → (p ≡ x) ⊎ IsFrom xs (i + 1) p
-    to h = elim (cases_lt i h.0) [
-      | inl l ↦ inr (h.0, omega (arith, l), h.2, h.3)
-      | inr past ↦ let e : h.0 ≡ i = omega (arith, past, h.1) in inl (sym h.3 ∙ ap (λ k. get_or xs k p) e ∙ at)
-    ]
-
-    from : (p ≡ x) ⊎ IsFrom xs (i + 1) p → IsFrom xs i p
-    from (inl e) = (i, omega arith, low, at ∙ sym e)
-    from (inr h) = (h.0, omega (arith, h.1), h.2, h.3)
-
--- at first it is any of them
-pub from_all : (xs : List ℕ) (p : ℕ) → IsFrom xs 0 p ↔ Contains xs p
-from_all xs p = (λ h. (h.0, h.2, h.3), λ c. (c.0, omega arith, c.1, c.2))
 
 -- what follows where a call succeeds
 pub on_ok : {T E : Type 0} (P Q : Type 0) → (P → Q) → (r : Result T E) → OnOk r P → OnOk r Q

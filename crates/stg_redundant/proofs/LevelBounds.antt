@@ -2,14 +2,12 @@
 use Rattle.std.proofs.Common.{◌≡◌, ◌<◌, ◌≤◌, ◌+◌, ◌*◌, ◌-◌, ℕ, zero, suc, List, ◌∷◌, length, get_or, All, sym, ap, subst, inl, inr, arith}
 use Rattle.std.proofs.Math.Nat.{mul-le-mul_right, le-mul_of_pos_right}
 use Rattle.std.proofs.lemmas.Bool.{cases_lt, cases_eq, lt-ltb, le-ltb}
-use Rattle.std.proofs.lemmas.List.{get_or_past}
 use Rattle.std.proofs.lemmas.List.Elements.{All-cons, All-head, All-tail}
 use Rattle.stg_net.specs.Graph.{Graph, tokens_at, takes, gives}
 use Rattle.stg_arena.specs.WalkItems.{weighted_from}
 use Rattle.stg_edit.specs.Drafts.{IsWeightlessPastLast}
 use Rattle.stg_edit.specs.Walks.{taking_trans, giving_trans}
-use Rattle.stg_laws.proofs.Origins.{gives-past}
-use Rattle.stg_redundant.specs.Levelled.{Levelling, GrowsAcross, IsLevelled}
+use Rattle.stg_redundant.specs.Levelled.{Levelling, GrowsAcross}
 use Rattle.stg_redundant.specs.inner.DeadLinks.{AreBelow, AreAbove}
 
 -- what holds of each element of a walk holds of each number with a weight
@@ -90,25 +88,3 @@ grow_more g v w p numbers rise more here before q low u t given taken = elim (ca
   )
   | inr last ↦ let e : p ≡ q = omega (arith, low, last) in subst (GrowsAcross g w) e here u t given taken
 ]
-
--- where they grow across all places, they are levels of the graph
-pub levelled_below : (g : Graph) (v : Levelling) → length v.numbers ≡ length g.trans
-    → GrowBelow g v (length g.places) → IsLevelled g v
-levelled_below g v long grow = record {
-  long = long;
-  grows = λ p u t given taken. elim (cases_lt p (length g.places)) [
-    | inl low ↦ grow p low u t given taken
-    | inr past ↦ absurd (omega (arith, given, gives-past g u p past))
-  ];
-}
-
--- levels that are all 0 and don't rise are those of each graph
-pub flat : (g : Graph) (v : Levelling) → length v.numbers ≡ length g.trans → v.rise ≡ 0
-    → All (λ n. n ≡ 0) v.numbers → IsLevelled g v
-flat g v long even none = record {
-  long = long;
-  grows = λ p u t given taken. omega (arith, even, zeros u, zeros t);
-}
-  where
-    zeros : (t : ℕ) → get_or v.numbers t 0 ≡ 0
-    zeros t = elim (cases_lt t (length v.numbers)) [ inl low ↦ none t 0 low | inr past ↦ get_or_past v.numbers t 0 past ]

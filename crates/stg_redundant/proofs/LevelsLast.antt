@@ -1,5 +1,5 @@
 -- Levels stay levels where places or transitions are deleted, and where a transition is contracted.
-use Rattle.std.proofs.Common.{◌≡◌, ◌≢◌, ◌<◌, ◌≤◌, ◌+◌, ◌*◌, ℕ, List, length, get_or, cond, eqb, None, eq-eqb, refl, sym, ap, ◌∙◌, subst, inl, inr, arith}
+use Rattle.std.proofs.Common.{◌≡◌, ◌≢◌, ◌<◌, ◌≤◌, ◌+◌, ◌*◌, ℕ, length, get_or, cond, eqb, None, eq-eqb, refl, sym, ap, ◌∙◌, subst, inl, inr, arith}
 use Rattle.std.proofs.Math.Nat.{mul-add}
 use Rattle.std.proofs.lemmas.Bool.{cases_lt, cases_eq}
 use Rattle.std.proofs.lemmas.List.{length-set, get_or_past}
@@ -61,11 +61,6 @@ levelled-without_trans g v t = fewer_levelled g (without_trans g t) v (length-se
       taken = omega (arith, taken, k.taken s p s_other);
       tokens = k.tokens p;
     })
-
--- where other signals are known
-pub levelled-known : (g : Graph) (v : Levelling) (known : List (List ℕ)) → IsLevelled g v
-    → IsLevelled (record g { known = known }) v
-levelled-known g v known w = record { long = w.long; grows = w.grows }
 
 module _ (g : Graph) (v : Levelling) (t : ℕ) (narrow : IsWeightlessPastLast g) (weightless : IsWeightlessWhereRemoved g) (secure : IsSecure g t) (w : IsLevelled g v) where
   module _ (p : ℕ) (pair : StandsForPair g t p) where

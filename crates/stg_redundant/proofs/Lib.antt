@@ -15,5 +15,6 @@ pub mod Reaching
 pub mod StillWatched
 pub mod FlagSteps
 pub mod FlagAdds
+pub mod NearTrans
 pub mod RedundantEdits
 mod Examples

@@ -6,7 +6,6 @@ use Rattle.stg_arena.specs.WalkItems.{weighted}
 use Rattle.stg_edit.specs.Drafts.{IsWeightlessPastLast}
 use Rattle.stg_edit.specs.Walks.{taken_places, given_places, taking_trans, giving_trans}
 use Rattle.stg_laws.proofs.Origins.{takes-past, gives-past}
-use Rattle.stg_edit.proofs.LiveEnds.{taken_is_place, given_is_place}
 use Rattle.std.proofs.lemmas.Option.{none-some}
 use Rattle.std.proofs.lemmas.List.Elements.{All-head, All-tail}
 use Rattle.stg_contract.proofs.WeightLists.{each_from}
@@ -110,15 +109,6 @@ module _ (g : Graph) (p : ℕ) (narrow : IsWeightlessPastLast g) (live : IsPlace
       to (itself q_live e) = e
       to (same_arcs r e a) = absurd (a.some (λ t. (a.taken t ∙ ap (takes g t) e ∙ (none t).0, a.given t ∙ ap (gives g t) e ∙ (none t).1)))
       to (any_link never l) = absurd never
-
--- nothing is in reach of a place that isn't live
-pub reach_of_none : (g : Graph) (p q : ℕ) → (IsPlace g p → ⊥) → IsInReach g (λ r. r ≡ p) ⊥ q → ⊥
-reach_of_none g p q dead (itself live e) = dead (subst (IsPlace g) e live)
-reach_of_none g p q dead (same_arcs r e a) = a.some (λ t. (none_at t (takes g t q) (takes g t r) (a.taken t) (λ some. dead (subst (IsPlace g) e (taken_is_place g t r some))), none_at t (gives g t q) (gives g t r) (a.given t) (λ some. dead (subst (IsPlace g) e (given_is_place g t r some)))))
-  where
-    none_at : (t a b : ℕ) → a ≡ b → (0 < b → ⊥) → a ≡ 0
-    none_at t a b e no_more = elim (cases_lt 0 b) [ inl some ↦ absurd (no_more some) | inr zero ↦ omega (arith, e, zero) ]
-reach_of_none g p q dead (any_link never l) = absurd never
 
 -- what is in reach of two kinds of places is in reach of one of them
 pub reach_split : (g : Graph) (IsOne IsFirst IsLater : ℕ → Type 0) → ((p : ℕ) → IsOne p ↔ (IsFirst p ⊎ IsLater p))

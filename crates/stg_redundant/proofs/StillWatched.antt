@@ -5,8 +5,8 @@ use Rattle.stg_net.specs.Contraction.{without_place, without_trans, contracted}
 use Rattle.stg_edit.specs.Drafts.{IsWeightlessPastLast}
 use Rattle.stg_laws.specs.RedundantPlaces.{IsRedundantPlace}
 use Rattle.stg_laws.specs.Secure.{IsPureOrdinary}
-use Rattle.stg_redundant.specs.Watching.{IsNearPlace, IsNewPlace, IsInReach, itself, same_arcs, any_link, HasLinkAmong, HasOtherAmong, AreWatched, HasNoneBesides, HasBesides}
-use Rattle.stg_redundant.proofs.WatchedPlaces.{place_deletion_reaches_none, known_signals_reach_none, trans_deletion_reaches}
+use Rattle.stg_redundant.specs.Watching.{IsNearPlace, IsNewPlace, IsInReach, itself, same_arcs, any_link, HasLinkAmong, HasOtherAmong, AreWatched, HasBesides}
+use Rattle.stg_redundant.proofs.WatchedPlaces.{place_deletion_reaches_none, trans_deletion_reaches}
 use Rattle.stg_redundant.proofs.ContractedPlaces.{contraction_reaches}
 
 -- what is in reach of some places is in reach of more, where links count not less
@@ -17,22 +17,11 @@ wider g IsOne IsAlso Count More q also more (itself live one) = itself live (als
 wider g IsOne IsAlso Count More q also more (same_arcs p one a) = same_arcs p (also p one) a
 wider g IsOne IsAlso Count More q also more (any_link count l) = any_link (more count) l
 
--- a watch that has lost nothing watches as much
-pub watched-more : (g : Graph) (old new : List ℕ) → HasNoneBesides new old → AreWatched g old
-    → AreWatched g new
-watched-more g old new kept watched p redundant = kept p (watched p redundant)
-
 -- after the deletion of a place nothing is watched again
 pub watched-without_place : (g : Graph) (watch : List ℕ) (p : ℕ) → AreWatched g watch
     → AreWatched (without_place g p) watch
 watched-without_place g watch p watched q redundant =
     watched q (place_deletion_reaches_none g p q redundant)
-
--- nor where other signals are known
-pub watched-known : (g : Graph) (watch : List ℕ) (known : List (List ℕ)) → AreWatched g watch
-    → AreWatched (record g { known = known }) watch
-watched-known g watch known watched q redundant =
-    watched q (known_signals_reach_none g known q redundant)
 
 -- after the deletion of a transition, where no place was redundant, what is in reach of the places
 -- near it is watched again

@@ -1,7 +1,7 @@
 -- What a watch of redundant dummies shows: for each number of a transition, whether it is watched.
 use Rattle.std.specs.Prelude.{◌≡◌, ℕ, Bool, true, false, List, length, slice_index_or}
-use Rattle.stg_net.specs.Graph.{Graph, IsDummy, takes, gives}
-use Rattle.stg_laws.specs.RedundantDummies.{IsRedundantDummy}
+use Rattle.stg_net.specs.Graph.{Graph}
+use Rattle.stg_laws.specs.RedundantDummies.{IsSameDummy, IsRedundantDummy}
 use Rattle.stg_contract.specs.Neighbours.{HasArc}
 
 -- t is watched
@@ -23,17 +23,7 @@ pub record FlagsMore (old new : List Bool) : Type 0 where
   pub as_long : length new ≡ length old
   pub kept : (t : ℕ) → IsFlagged old t → IsFlagged new t
 
--- two dummies have the same arcs with all places but those of the edit, and have one
-pub record AreAlikeBeyond (g : Graph) (IsAtEdit : ℕ → Type 0) (u v : ℕ) : Type 0 where
-  pub dummy : IsDummy g u
-  pub other_dummy : IsDummy g v
-  pub taken : (p : ℕ) → ¬ IsAtEdit p → takes g u p ≡ takes g v p
-  pub given : (p : ℕ) → ¬ IsAtEdit p → gives g u p ≡ gives g v p
-  pub place : ℕ
-  pub beyond : ¬ IsAtEdit place
-  pub arc : HasArc g v place
-
--- v is watched, where it is a dummy, and so is each dummy that is like it beyond the edit
-abbrev pub IsFlaggedWithAlike : Graph → (ℕ → Type 0) → List Bool → ℕ → Type 0
-IsFlaggedWithAlike g IsAtEdit flags v = IsDummy g v
-    → IsFlagged flags v × ((u : ℕ) → AreAlikeBeyond g IsAtEdit u v → IsFlagged flags u)
+-- v is watched, where it is redundant, and so is each dummy that is the same as v, where v has an arc
+abbrev pub IsFlaggedWithSame : Graph → List Bool → ℕ → Type 0
+IsFlaggedWithSame g flags v = (IsRedundantDummy g v → IsFlagged flags v)
+    × ((u p : ℕ) → HasArc g v p → IsSameDummy g u v → IsFlagged flags u)

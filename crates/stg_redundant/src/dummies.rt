@@ -26,7 +26,7 @@ fn is_loop(editor: &Editor, t: u32) -> bool
 }
 
 /// Whether u is another dummy with the arcs of a live transition.
-fn is_same(editor: &Editor, t: u32, u: u32) -> bool
+pub fn is_same(editor: &Editor, t: u32, u: u32) -> bool
     requires { IsTrans editor.now.now t }
     ensures { result ≡ tests.is_same_dummy editor.now.now t u }
 {

@@ -4,17 +4,18 @@ ghost use Rattle.std.specs.Prelude.{◌≡◌, ◌<◌, ◌≤◌, ◌↔◌, �
 ghost use Rattle.std.specs.BinaryHeap.{heap_items, IsHeap};
 ghost use Rattle.std.specs.Ordering.{nat_cmp};
 ghost use Rattle.stg_net.specs.Graph.{IsPlace, IsTrans, IsDummy};
-ghost use Rattle.stg_laws.specs.RedundantDummies.{IsRedundantDummy};
-ghost use Rattle.stg_contract.specs.Neighbours.{HasArc, AreNeighbours};
+ghost use Rattle.stg_laws.specs.RedundantDummies.{IsRedundantDummy, IsSameDummy};
+ghost use Rattle.stg_contract.specs.Neighbours.{HasArc};
 ghost use Rattle.stg_contract.specs.inner.Watches.{HasNumber};
 ghost use Rattle.stg_redundant.specs.Rules.{IsDummyFound};
-ghost use Rattle.stg_redundant.specs.FlaggedDummies.{IsFlagged, FlagsRedundant, DropsUseful, FlagsMore, IsFlaggedWithAlike};
+ghost use Rattle.stg_redundant.specs.FlaggedDummies.{IsFlagged, FlagsRedundant, DropsUseful, FlagsMore, IsFlaggedWithSame};
 ghost use Rattle.stg_redundant.specs.inner.Searches.{IsDummyRuleOf};
-ghost use Rattle.stg_redundant.specs.inner.Flagging.{AreWaiting, IsAtEdited, IsEditLive};
+ghost use Rattle.stg_redundant.specs.inner.Flagging.{AreWaiting};
+ghost use Rattle.stg_redundant.specs.inner.Tests as tests;
 
-use crate::beyond::{Edited, place_beyond};
-use crate::dummies::{is_dummy, rule_of};
+use crate::dummies::{is_dummy, is_same, rule_of};
 use crate::found::{DummyFound, DummyRule};
+use crate::walks::first_of;
 use std::alloc::Global;
 use std::collections::BinaryHeap;
 use std::marker::Model;
@@ -117,30 +118,17 @@ impl RedundantWatch {
         Ok(())
     }
 
-    /// Watches each dummy that takes from a live place or gives to it, and each one that has the
-    /// other arcs of such a dummy. After an error some of them may not be watched.
-    pub fn add_at(&mut self, editor: &Editor, p: u32) -> Result<(), NoMemory>
-        requires place { IsPlace editor.now.now p }
+    /// Watches those of these transitions that are redundant dummies now, and the dummies that are
+    /// the same as one of them. After an error some of them may not be watched.
+    pub fn add_each(&mut self, editor: &Editor, trans: &[u32]) -> Result<(), NoMemory>
         requires long { length self.old ≡ length editor.now.now.trans }
-        ensures added { OnOk result ((v : ℕ) → HasArc editor.now.now v p
-            → IsFlaggedWithAlike editor.now.now (λ q. q ≡ p) self.new v) }
+        ensures added { OnOk result ((v : ℕ) → Contains trans.now v
+            → IsFlaggedWithSame editor.now.now self.new v) }
         ensures kept { FlagsMore self.old self.new }
     {
-        add_beside_at(self, editor, p, Edited::Place(p))
-    }
-
-    /// Watches each dummy that has an arc with a place with which a live transition has one, and
-    /// each one that has the arcs of such a dummy with all other places. After an error some of
-    /// them may not be watched.
-    pub fn add_round(&mut self, editor: &Editor, t: u32) -> Result<(), NoMemory>
-        requires live { IsTrans editor.now.now t }
-        requires long { length self.old ≡ length editor.now.now.trans }
-        ensures added { OnOk result ((v : ℕ) → AreNeighbours editor.now.now t v
-            → IsFlaggedWithAlike editor.now.now (HasArc editor.now.now t) self.new v) }
-        ensures kept { FlagsMore self.old self.new }
-    {
-        add_beside_each(self, editor, editor.takes(t), Edited::Trans(t))?;
-        add_beside_each(self, editor, editor.gives(t), Edited::Trans(t))?;
+        for v in trans {
+            add_redundant(self, editor, *v)?;
+        }
         Ok(())
     }
 
@@ -155,123 +143,71 @@ impl RedundantWatch {
     }
 }
 
-/// Watches a transition, where it is a dummy.
-fn add_dummy(watch: &mut RedundantWatch, editor: &Editor, t: u32) -> Result<(), NoMemory>
-    requires { t < length watch.old }
-    ensures added { OnOk result (IsDummy editor.now.now t → IsFlagged watch.new t) }
-    ensures kept { FlagsMore watch.old watch.new }
-{
-    if is_dummy(editor, t) {
-        return watch.add(t);
-    }
-    Ok(())
-}
-
-/// Watches each dummy of a walk.
-fn add_all(watch: &mut RedundantWatch, editor: &Editor, trans: Walk<'_>) -> Result<(), NoMemory>
-    requires { All (λ x. x.0 < length watch.old) trans }
-    ensures added { OnOk result ((u : ℕ) → HasNumber u trans.entry
-        → IsDummy editor.now.now u → IsFlagged watch.new u) }
-    ensures kept { FlagsMore watch.old watch.new }
-{
-    for (t, _) in trans {
-        add_dummy(watch, editor, t)?;
-    }
-    Ok(())
-}
-
-/// Watches each dummy at a live place.
-fn add_all_at(watch: &mut RedundantWatch, editor: &Editor, p: u32) -> Result<(), NoMemory>
-    requires place { IsPlace editor.now.now p }
-    requires long { length watch.old ≡ length editor.now.now.trans }
-    ensures added { OnOk result ((u : ℕ) → IsDummy editor.now.now u → HasArc editor.now.now u p
+/// Watches u, where it is the same as the dummy v.
+fn add_same_at(watch: &mut RedundantWatch, editor: &Editor, v: u32, u: u32) -> Result<(), NoMemory>
+    requires live { IsTrans editor.now.now v }
+    requires below { u < length watch.old }
+    ensures added { OnOk result (tests.is_same_dummy editor.now.now v u ≡ true
         → IsFlagged watch.new u) }
     ensures kept { FlagsMore watch.old watch.new }
 {
-    add_all(watch, editor, editor.takers(p))?;
-    add_all(watch, editor, editor.givers(p))?;
+    if is_same(editor, v, u) {
+        return watch.add(u);
+    }
     Ok(())
 }
 
-/// Watches a transition, where it is a dummy, and each dummy at a place of it beyond the edit.
-fn add_beside(
+/// Watches those of a walk that are the same as the dummy v.
+fn add_all_same(
     watch: &mut RedundantWatch,
     editor: &Editor,
     v: u32,
-    edit: Edited,
-) -> Result<(), NoMemory>
-    requires edit { IsEditLive editor.now.now edit }
-    requires below { v < length watch.old }
-    requires long { length watch.old ≡ length editor.now.now.trans }
-    ensures added { OnOk result
-        (IsFlaggedWithAlike editor.now.now (IsAtEdited editor.now.now edit) watch.new v) }
-    ensures kept { FlagsMore watch.old watch.new }
-{
-    if !is_dummy(editor, v) {
-        return Ok(());
-    }
-    watch.add(v)?;
-    match place_beyond(editor, edit, v) {
-        None => return Ok(()),
-        Some(q) => return add_all_at(watch, editor, q),
-    }
-}
-
-/// The same for each transition of a walk.
-fn add_all_beside(
-    watch: &mut RedundantWatch,
-    editor: &Editor,
     trans: Walk<'_>,
-    edit: Edited,
 ) -> Result<(), NoMemory>
-    requires edit { IsEditLive editor.now.now edit }
+    requires live { IsTrans editor.now.now v }
     requires below { All (λ x. x.0 < length watch.old) trans }
-    requires long { length watch.old ≡ length editor.now.now.trans }
-    ensures added { OnOk result ((v : ℕ) → HasNumber v trans.entry
-        → IsFlaggedWithAlike editor.now.now (IsAtEdited editor.now.now edit) watch.new v) }
+    ensures added { OnOk result ((u : ℕ) → HasNumber u trans.entry
+        → tests.is_same_dummy editor.now.now v u ≡ true → IsFlagged watch.new u) }
     ensures kept { FlagsMore watch.old watch.new }
 {
-    for (v, _) in trans {
-        add_beside(watch, editor, v, edit)?;
+    for (u, _) in trans {
+        add_same_at(watch, editor, v, u)?;
     }
     Ok(())
 }
 
-/// The same for each transition at a live place.
-fn add_beside_at(
-    watch: &mut RedundantWatch,
-    editor: &Editor,
-    p: u32,
-    edit: Edited,
-) -> Result<(), NoMemory>
-    requires edit { IsEditLive editor.now.now edit }
-    requires place { IsPlace editor.now.now p }
+/// Watches the dummies that are the same as the dummy v, where it has an arc. They are among the
+/// transitions at its first place.
+fn add_same(watch: &mut RedundantWatch, editor: &Editor, v: u32) -> Result<(), NoMemory>
+    requires dummy { IsDummy editor.now.now v }
     requires long { length watch.old ≡ length editor.now.now.trans }
-    ensures added { OnOk result ((v : ℕ) → HasArc editor.now.now v p
-        → IsFlaggedWithAlike editor.now.now (IsAtEdited editor.now.now edit) watch.new v) }
+    ensures added { OnOk result ((u p : ℕ) → HasArc editor.now.now v p
+        → IsSameDummy editor.now.now u v → IsFlagged watch.new u) }
     ensures kept { FlagsMore watch.old watch.new }
 {
-    add_all_beside(watch, editor, editor.takers(p), edit)?;
-    add_all_beside(watch, editor, editor.givers(p), edit)?;
+    match first_of(editor.takes(v)) {
+        Some(p) => {
+            add_all_same(watch, editor, v, editor.takers(p))?;
+            return Ok(());
+        }
+        None => {}
+    }
+    match first_of(editor.gives(v)) {
+        Some(p) => add_all_same(watch, editor, v, editor.givers(p))?,
+        None => {}
+    }
     Ok(())
 }
 
-/// The same for each place of a walk.
-fn add_beside_each(
-    watch: &mut RedundantWatch,
-    editor: &Editor,
-    places: Walk<'_>,
-    edit: Edited,
-) -> Result<(), NoMemory>
-    requires edit { IsEditLive editor.now.now edit }
-    requires places { All (λ x. IsPlace editor.now.now x.0) places }
+/// Watches a transition, where it is a redundant dummy, and the dummies that are the same.
+fn add_redundant(watch: &mut RedundantWatch, editor: &Editor, v: u32) -> Result<(), NoMemory>
     requires long { length watch.old ≡ length editor.now.now.trans }
-    ensures added { OnOk result ((p v : ℕ) → HasNumber p places.entry → HasArc editor.now.now v p
-        → IsFlaggedWithAlike editor.now.now (IsAtEdited editor.now.now edit) watch.new v) }
+    ensures added { OnOk result (IsFlaggedWithSame editor.now.now watch.new v) }
     ensures kept { FlagsMore watch.old watch.new }
 {
-    for (p, _) in places {
-        add_beside_at(watch, editor, p, edit)?;
+    match rule_at(editor, v) {
+        None => return Ok(()),
+        Some(_) => watch.add(v)?,
     }
-    Ok(())
+    add_same(watch, editor, v)
 }

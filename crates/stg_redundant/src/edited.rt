@@ -45,8 +45,8 @@ pub fn has_other_near(editor: &Editor, t: u32) -> bool
     has_other(editor, editor.takes(t)) || has_other(editor, editor.gives(t))
 }
 
-/// Adds the places to a list.
-fn push_all(list: &mut Vec<u32>, places: Walk<'_>) -> Result<(), NoMemory>
+/// Adds the numbers of a walk to a list.
+pub fn push_all(list: &mut Vec<u32>, places: Walk<'_>) -> Result<(), NoMemory>
     ensures { OnOk result
         (HasBesides (λ p. IsAmong p places.entry) list.old.items list.new.items) }
 {

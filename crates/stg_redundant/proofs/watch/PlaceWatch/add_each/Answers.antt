@@ -1,7 +1,8 @@
 use Rattle.std.proofs.Common.{◌≡◌, ◌<◌, ◌+◌, length, get_or, Contains, arith}
 use Rattle.std.proofs.lemmas.List.{get_or_default}
 use Rattle.stg_redundant.specs.Watching.{IsInReach}
-use Rattle.stg_redundant.proofs.Besides.{IsFrom, all_left, step_added, none_left, from_split, from_all}
+use Rattle.stg_contract.proofs.WatchAdds.{IsFrom, from_split, from_all}
+use Rattle.stg_redundant.proofs.Besides.{all_left, step_added, none_left}
 use Rattle.stg_redundant.proofs.Reaching.{reach_same, reach_split, reach_empty}
 use Rattle.stg_redundant.proofs.watch.PlaceWatch.add_each.Goals as goal
 

@@ -1,6 +1,7 @@
 use Rattle.std.proofs.Common.{Contains}
 use Rattle.stg_redundant.specs.Watching.{IsInReach, HasNoneBesides}
-use Rattle.stg_redundant.proofs.Besides.{HasBesidesButLeft, IsFrom}
+use Rattle.stg_contract.proofs.WatchAdds.{IsFrom}
+use Rattle.stg_redundant.proofs.Besides.{HasBesidesButLeft}
 use Rattle.stg_redundant.proofs.watch.PlaceWatch.add_each.Given as goal
 
 abbrev pub invariant-loop-p : goal.invariant-loop-p
