@@ -1,0 +1,14 @@
+pub mod BodyLemmas
+pub mod NameLemmas
+pub mod ReplyLemmas
+pub mod Walking
+pub mod WriteLemmas
+pub mod ReadLemmas
+pub mod PathLemmas
+pub mod BodyReading
+pub mod AskLemmas
+pub mod AnswerLemmas
+pub mod ServeLemmas
+pub mod GivenLemmas
+pub mod OneAsked
+pub mod RepeatLemmas

@@ -1,0 +1,5 @@
+use Rattle.desk_http.proofs.NameLemmas.{name_is_utf8}
+use Rattle.desk_http.proofs.bodies.name_text.Goals as goal
+
+pub unreachable-requires : goal.unreachable-requires
+unreachable-requires c = c.in-Err.ensures.cases.0 (name_is_utf8 c.args.name.now c.requires)
