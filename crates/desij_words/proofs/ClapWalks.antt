@@ -252,7 +252,7 @@ number-begins most w e = by (begins_number w) (list_all is_digit w) (nat_le (dig
     by true b q e = refl
     by false b q e = absurd (true≢false (sym e))
 
-number-plain : (most : ℕ) (w : Text) → is_some (number_up_to most w) ≡ true → IsPlain w
+pub number-plain : (most : ℕ) (w : Text) → is_some (number_up_to most w) ≡ true → IsPlain w
 number-plain most w e = file-plain w (number-file w (number-begins most w e))
 
 -- ---- turns

@@ -4,4 +4,6 @@ pub mod FormLemmas
 pub mod ClapRows
 pub mod ClapWalks
 pub mod ClapMatches
+pub mod ClapServing
 pub mod CommandLemmas
+pub mod ServingLemmas

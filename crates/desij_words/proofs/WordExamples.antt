@@ -1,6 +1,7 @@
 -- What worked words ask for, computed.
 use Rattle.std.proofs.Common.{◌≡◌, [], ◌∷◌, None, Some, List, refl, codes, true, false, map}
 use Rattle.desij_words.specs.Words.{Text, Decompose, Measure, asked_in, usage}
+use Rattle.desij_words.specs.Serving.{Serving, serving_in}
 use Rattle.desij_words.specs.declared.words.TheConstants.{USAGE}
 
 plain : asked_in (codes "decompose" ∷ codes "a.g" ∷ []) ≡ Some (Decompose (codes "a.g") 1 None false)
@@ -72,6 +73,82 @@ no_form : AllRefused (
     ∷ (codes "measure" ∷ codes "--" ∷ codes "7" ∷ [])
     ∷ [])
 no_form = refl
+
+-- ---- words of a run that serves
+
+served : serving_in (codes "serve" ∷ codes "here" ∷ codes "3" ∷ []) ≡ Some (record { addr = codes "here"; count = 3; database = None })
+served = refl
+
+served_most : serving_in (codes "serve" ∷ codes "127.0.0.1:8080" ∷ codes "1000000" ∷ []) ≡ Some (record { addr = codes "127.0.0.1:8080"; count = 1000000; database = None })
+served_most = refl
+
+-- the six ways to name a database
+abbrev named : List Text → Type 0
+named words = serving_in (codes "serve" ∷ words) ≡ Some (record { addr = codes "here"; count = 1; database = Some (codes "a.db") })
+
+named_first : named (codes "--database=a.db" ∷ codes "here" ∷ codes "1" ∷ [])
+named_first = refl
+
+named_between : named (codes "here" ∷ codes "--database=a.db" ∷ codes "1" ∷ [])
+named_between = refl
+
+named_last : named (codes "here" ∷ codes "1" ∷ codes "--database=a.db" ∷ [])
+named_last = refl
+
+named_next_first : named (codes "--database" ∷ codes "a.db" ∷ codes "here" ∷ codes "1" ∷ [])
+named_next_first = refl
+
+named_next_between : named (codes "here" ∷ codes "--database" ∷ codes "a.db" ∷ codes "1" ∷ [])
+named_next_between = refl
+
+named_next_last : named (codes "here" ∷ codes "1" ∷ codes "--database" ∷ codes "a.db" ∷ [])
+named_next_last = refl
+
+named_with_a_sign : serving_in (codes "serve" ∷ codes "a" ∷ codes "1" ∷ codes "--database=p=q" ∷ []) ≡ Some (record { addr = codes "a"; count = 1; database = Some (codes "p=q") })
+named_with_a_sign = refl
+
+-- a count may stand for an address, but no address for a count
+counted : serving_in (codes "serve" ∷ codes "1" ∷ codes "2" ∷ []) ≡ Some (record { addr = codes "1"; count = 2; database = None })
+counted = refl
+
+abbrev AllUnserved : List (List Text) → Type 0
+AllUnserved rows = map serving_in rows ≡ map (λ (r : List Text). None) rows
+
+no_serving : AllUnserved (
+    []
+    ∷ (codes "serve" ∷ [])
+    ∷ (codes "serve" ∷ codes "here" ∷ [])
+    ∷ (codes "serve" ∷ codes "1" ∷ codes "here" ∷ [])
+    ∷ (codes "here" ∷ codes "1" ∷ [])
+    ∷ (codes "here" ∷ codes "serve" ∷ codes "1" ∷ [])
+    ∷ (codes "decompose" ∷ codes "a.g" ∷ [])
+    ∷ (codes "decompose" ∷ codes "here" ∷ codes "1" ∷ [])
+    ∷ (codes "measure" ∷ codes "1" ∷ [])
+    ∷ (codes "serve" ∷ codes "here" ∷ codes "0" ∷ [])
+    ∷ (codes "serve" ∷ codes "here" ∷ codes "1000001" ∷ [])
+    ∷ (codes "serve" ∷ codes "here" ∷ codes "01" ∷ [])
+    ∷ (codes "serve" ∷ codes "here" ∷ codes "+1" ∷ [])
+    ∷ (codes "serve" ∷ codes "here" ∷ codes "1a" ∷ [])
+    ∷ (codes "serve" ∷ codes "here" ∷ codes "" ∷ [])
+    ∷ (codes "serve" ∷ codes "" ∷ codes "1" ∷ [])
+    ∷ (codes "serve" ∷ codes "-here" ∷ codes "1" ∷ [])
+    ∷ (codes "serve" ∷ codes "here" ∷ codes "1" ∷ codes "1" ∷ [])
+    ∷ (codes "serve" ∷ codes "here" ∷ codes "1" ∷ codes "2" ∷ codes "3" ∷ [])
+    ∷ (codes "serve" ∷ codes "--" ∷ codes "here" ∷ codes "1" ∷ [])
+    ∷ (codes "serve" ∷ codes "here" ∷ codes "1" ∷ codes "--" ∷ [])
+    ∷ (codes "serve" ∷ codes "here" ∷ codes "1" ∷ codes "--help" ∷ [])
+    ∷ (codes "serve" ∷ codes "here" ∷ codes "1" ∷ codes "--database" ∷ [])
+    ∷ (codes "serve" ∷ codes "here" ∷ codes "1" ∷ codes "--database=" ∷ [])
+    ∷ (codes "serve" ∷ codes "here" ∷ codes "1" ∷ codes "--database" ∷ codes "" ∷ [])
+    ∷ (codes "serve" ∷ codes "here" ∷ codes "1" ∷ codes "--database=-a" ∷ [])
+    ∷ (codes "serve" ∷ codes "here" ∷ codes "1" ∷ codes "--database" ∷ codes "--steps" ∷ [])
+    ∷ (codes "serve" ∷ codes "here" ∷ codes "1" ∷ codes "--data" ∷ codes "a.db" ∷ [])
+    ∷ (codes "serve" ∷ codes "here" ∷ codes "1" ∷ codes "--workers" ∷ codes "2" ∷ [])
+    ∷ (codes "serve" ∷ codes "here" ∷ codes "--database" ∷ codes "1" ∷ [])
+    ∷ (codes "serve" ∷ codes "--database=a.db" ∷ codes "--database=a.db" ∷ codes "here" ∷ codes "1" ∷ [])
+    ∷ (codes "serve" ∷ codes "--database" ∷ codes "a.db" ∷ codes "here" ∷ codes "1" ∷ codes "--database" ∷ codes "a.db" ∷ [])
+    ∷ [])
+no_serving = refl
 
 usage_printed : USAGE.now ≡ usage
 usage_printed = refl

@@ -195,3 +195,4 @@ abbrev pub usage : Text
 usage =
     codes "usage: desij decompose SPEC [--workers N] [--partition FILE] [--steps]\n"
     ++ codes "       desij measure N [--workers N]\n"
+    ++ codes "       desij serve ADDR COUNT [--database FILE]\n"

@@ -3,4 +3,7 @@
 
 mod words;
 
-pub use words::{Command, USAGE, decompose_matches, measure_matches, read_command};
+pub use words::{
+    Command, Serving, USAGE, decompose_matches, measure_matches, read_command, read_serving,
+    serving_matches,
+};

@@ -2,6 +2,7 @@
 
 mod form;
 mod matches;
+mod serving;
 #[cfg(test)]
 mod tests;
 mod word;
@@ -16,7 +17,8 @@ ghost use Rattle.desij_words.specs.Matches.{HasValues, IsDecompose, IsMeasure};
 use clap::error::ErrorKind;
 use clap::{ArgMatches, Error};
 use form::{Action, action_of};
-pub use matches::{decompose_matches, measure_matches};
+pub use matches::{decompose_matches, measure_matches, serving_matches};
+pub use serving::{Serving, read_serving};
 use std::alloc::Global;
 use stg_net::NoMemory;
 use word::{MOST_OUTPUTS, MOST_WORKERS, number};
@@ -25,6 +27,7 @@ use word::{MOST_OUTPUTS, MOST_WORKERS, number};
 pub const USAGE: &[u8] = b"\
 usage: desij decompose SPEC [--workers N] [--partition FILE] [--steps]
        desij measure N [--workers N]
+       desij serve ADDR COUNT [--database FILE]
 ";
 
 /// What a run is asked to do.

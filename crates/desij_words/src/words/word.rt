@@ -13,6 +13,9 @@ pub const MOST_WORKERS: u32 = 64;
 /// The most outputs that a pipeline may have.
 pub const MOST_OUTPUTS: u32 = 248;
 
+/// The most connections that may be served.
+pub const MOST_CONNECTIONS: u32 = 1_000_000;
+
 /// What has a value: the place of a word that is no option's, or an option.
 #[derive(Clone, Copy)]
 pub enum Argument {
@@ -65,8 +68,8 @@ pub fn number(word: &str, most: u32) -> Option<u32>
     if number <= most { Some(number) } else { None }
 }
 
-// What follows the beginning.
-fn value_after<'a>(word: &'a str, beginning: &str) -> Option<&'a str>
+/// What follows the beginning.
+pub fn value_after<'a>(word: &'a str, beginning: &str) -> Option<&'a str>
     ensures { option_copied result ≡ after_prefix beginning.now word.now }
 {
     word.strip_prefix(beginning)
