@@ -6,3 +6,5 @@ pub mod EndLemmas
 pub mod PutLemmas
 pub mod TakeLemmas
 pub mod ShownLemmas
+pub mod SittingLemmas
+pub mod TurnLemmas

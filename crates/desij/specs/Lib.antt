@@ -5,5 +5,7 @@ pub mod Files
 pub mod Printing
 pub mod Statuses
 pub mod Run
+pub mod Sitting
+pub mod Served
 -- What serves private functions alone.
 pub mod inner

@@ -5,3 +5,4 @@ pub mod Taken
 pub mod Measured
 pub mod Putting
 pub mod Shown
+pub mod Turns

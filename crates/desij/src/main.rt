@@ -1,4 +1,5 @@
-//! Splits a signal transition graph into components, each written to a file of its own.
+//! Splits a signal transition graph into components, each written to a file of its own, or kept and
+//! told over HTTP.
 #![tactic(auto)]
 
 mod answer;
@@ -6,13 +7,17 @@ mod printing;
 mod putting;
 mod reading;
 mod run;
+mod run_serve;
+mod serving;
 mod status;
 mod taking;
 #[cfg(test)]
 mod tests;
 
-use io_shelf::{FileSource, FolderShelf, StdSink};
+use io_shelf::{FileSource, FolderShelf, StdSink, TcpDoors};
+use job_keeper::RealVault;
 use run::run;
+use run_serve::run_serve;
 use status::Status;
 use std::env;
 use std::env::Env;
@@ -40,16 +45,19 @@ fn main(rt: HostRuntime) -> ExitCode {
     let Ok(words) = all_words(&rt) else {
         return ExitCode::from(Status::NoMemory.code());
     };
-    let mut source = FileSource::new(&rt);
-    let mut shelf = FolderShelf::new(&rt);
+    let words = words.as_slice();
     let mut sink = StdSink::new(&rt);
-    let status = run(
-        &rt,
-        rt.alloc(),
-        words.as_slice(),
-        &mut source,
-        &mut shelf,
-        &mut sink,
-    );
+    let status = match words {
+        [first, ..] if first.as_str() == "serve" => {
+            let mut doors = TcpDoors::new(&rt);
+            let mut vault = RealVault::new(&rt);
+            run_serve(&rt, rt.alloc(), words, &mut doors, &mut vault, &mut sink)
+        }
+        _ => {
+            let mut source = FileSource::new(&rt);
+            let mut shelf = FolderShelf::new(&rt);
+            run(&rt, rt.alloc(), words, &mut source, &mut shelf, &mut sink)
+        }
+    };
     ExitCode::from(status.code())
 }

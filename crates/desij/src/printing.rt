@@ -5,10 +5,13 @@ ghost use Rattle.std.specs.String.{string_bytes};
 ghost use Rattle.io_shelf.specs.Outside.{HasCause};
 ghost use Rattle.desij.specs.Printing.{IsPrefixPrinted, all_places, all_restored, all_trans, clash_line, count_text, group_line, group_refusal, measure_line, signal_word, net_sizes, part_line, printed, refusal, signal_counts};
 ghost use Rattle.stg_partition.specs.declared.error.GroupError.TheVariants as group_error;
+ghost use Rattle.desij.specs.inner.Ends.{EndsUsage};
 ghost use Rattle.desij.specs.inner.Shown.{IsShown};
 ghost use Rattle.desij.specs.Run.{Prints};
 
+use crate::status::Status;
 use astg_read::Rule;
+use desij_words::USAGE;
 use io_shelf::{Failed, Sink};
 use itoa::Buffer;
 use std::alloc::{AllocError, Global};
@@ -223,4 +226,14 @@ pub fn write_all<K: Sink>(sink: &mut K, bytes: &[u8]) -> Result<(), Failed>
         at += sink.write(&bytes[at..])?;
     }
     Ok(())
+}
+
+/// Prints the usage.
+pub fn tell_usage<K: Sink>(sink: &mut K) -> Status
+    ensures { EndsUsage result (K.seen sink.old) (K.seen sink.new) }
+{
+    match write_all(sink, USAGE) {
+        Ok(()) => Status::BadWords,
+        Err(_) => Status::PrintFault,
+    }
 }

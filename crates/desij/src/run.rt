@@ -6,7 +6,7 @@ ghost use Rattle.astg_write.specs.Writable.{IsWritable};
 ghost use Rattle.stg_derive.specs.declared.part.Part.{Part};
 ghost use Rattle.stg_derive.specs.Loggable.{IsLoggable};
 ghost use Rattle.io_shelf.specs.Pipeline.{pipeline_text};
-ghost use Rattle.desij.specs.inner.Ends.{Ends, EndsMeasure, EndsRefusal, EndsUnmade, EndsUsage, Finishes};
+ghost use Rattle.desij.specs.inner.Ends.{Ends, EndsMeasure, EndsRefusal, EndsUnmade, Finishes};
 ghost use Rattle.desij.specs.inner.Measured.{IsMeasured};
 ghost use Rattle.desij.specs.inner.Unmade.{IsTold};
 ghost use Rattle.desij.specs.Files.{files_of_parts};
@@ -16,11 +16,11 @@ ghost use Rattle.desij.specs.Run.{seen, files_named, NoneRose, TellsAccepted, Te
 ghost use Rattle.desij_words.specs.Words.{Decompose, Measure, command_of};
 
 use crate::answer::{Unmade, accept_text, make_answer};
-use crate::printing::{measure_text, printed_text, write_all};
+use crate::printing::{measure_text, printed_text, tell_usage, write_all};
 use crate::putting::put_parts;
 use crate::status::Status;
 use crate::taking::{Made, take_parts};
-use desij_words::{Command, USAGE, read_command};
+use desij_words::{Command, read_command};
 use io_shelf::{PutError, Shelf, Sink, Source, pipeline};
 use std::alloc::Global;
 use std::thread::Threads;
@@ -95,16 +95,6 @@ struct Decomposition<'a> {
     partition: Option<&'a str>,
     steps: bool,
     workers: u32,
-}
-
-// Prints the usage.
-fn tell_usage<K: Sink>(sink: &mut K) -> Status
-    ensures { EndsUsage result (K.seen sink.old) (K.seen sink.new) }
-{
-    match write_all(sink, USAGE) {
-        Ok(()) => Status::BadWords,
-        Err(_) => Status::PrintFault,
-    }
 }
 
 // Decomposes the specification of that name.

@@ -1,15 +1,21 @@
 //! Words, texts and faults over the forms in memory, with and without options.
 
 mod derived;
+mod loopback;
 mod options;
 mod restored;
 mod rows;
+mod served;
+mod sitting;
 mod texts;
 
 use super::*;
-use io_shelf::pipeline;
-use rows::{NAMED, Ran, assert_given, assert_rows, run_over};
+use io_shelf::{MemSink, pipeline};
+use loopback::KnockedDoors;
+use rows::{NAMED, Ran, assert_given, assert_rows, run_over, strings};
+use sitting::assert_sittings;
 use std::alloc::Global;
+use std::io::Read;
 use std::test::Fail;
 use std::thread::Threads;
 use stg_net::{Seq, Text};
@@ -125,5 +131,47 @@ fn has_the_same_files_for_each_number_of_workers(rt: HostRuntime) -> Result<(), 
         assert_eq!(rt; ran.shelf.files(), one.shelf.files());
         assert_eq!(rt; ran.sink.bytes(), one.sink.bytes());
     }
+    Ok(())
+}
+
+#[test]
+fn serves_a_session(rt: HostRuntime) -> Result<(), Fail> {
+    assert_sittings(&rt, rt.alloc(), served::SESSION)
+}
+
+#[test]
+fn serves_the_first_links(rt: HostRuntime) -> Result<(), Fail> {
+    assert_sittings(&rt, rt.alloc(), served::FIRST_LINKS)
+}
+
+#[test]
+fn ends_with_a_fault_of_doors_or_vault(rt: HostRuntime) -> Result<(), Fail> {
+    assert_sittings(&rt, rt.alloc(), served::UNDONE)
+}
+
+// The peer keeps its stream open, so that a body that waits for its end is never answered.
+#[test]
+fn serves_a_peer_over_loopback(rt: HostRuntime) -> Result<(), Fail> {
+    let addr = "127.0.0.1:47313";
+    let words = strings(rt.alloc(), &["serve", addr, "1"])?;
+    let mut doors = KnockedDoors::new(&rt, addr);
+    let mut vault = RealVault::new(&rt);
+    let mut sink = MemSink::new(rt.alloc(), 100, Seq::new(rt.alloc()))?;
+    let status = run_serve(
+        &rt,
+        rt.alloc(),
+        words.as_slice(),
+        &mut doors,
+        &mut vault,
+        &mut sink,
+    );
+    assert_eq!(rt; status, Status::Done);
+    assert_eq!(rt; sink.bytes(), b"served 1\n".as_slice());
+    let mut peer = doors.peer.ok_or("no peer")?;
+    let mut reply = Vec::new(rt.alloc());
+    peer.read_to_end(&mut reply)?;
+    let wanted = b"HTTP/1.1 200 OK\r\nContent-Type: application/json\r\nContent-Length: 15\r\n\
+      Connection: close\r\n\r\n{\"projects\":[]}";
+    assert_eq!(rt; reply.as_slice(), wanted.as_slice());
     Ok(())
 }

@@ -41,11 +41,13 @@ pub struct Ran {
     pub sink: MemSink,
 }
 
-fn nums(alloc: Global, number: u32) -> Result<Nums, NoMemory> {
+/// The number of the call that fails.
+pub fn nums(alloc: Global, number: u32) -> Result<Nums, NoMemory> {
     Seq::from_slice(alloc, &[number])
 }
 
-fn strings(alloc: Global, all: &[&str]) -> Result<Vec<String>, NoMemory> {
+/// The words as strings.
+pub fn strings(alloc: Global, all: &[&str]) -> Result<Vec<String>, NoMemory> {
     let mut strings = Vec::new(alloc);
     for one in all {
         strings.push(String::from_str(alloc, one)?)?;

@@ -50,6 +50,7 @@ macro_rules! other_words {
             parts: &[],
             printed: b"usage: desij decompose SPEC [--workers N] [--partition FILE] [--steps]
        desij measure N [--workers N]
+       desij serve ADDR COUNT [--database FILE]
 ",
         }
     };
@@ -190,6 +191,7 @@ pub const OTHER_WORDS: &[Row] = &[
     other_words!(&["measure", "spec.g"]),
     other_words!(&["measure", "249"]),
     other_words!(&["spec.g", "decompose"]),
+    other_words!(&["serve", "spec.g", "1"]),
 ];
 
 // The first fault ends the run; the files before it stand.
